@@ -1,0 +1,192 @@
+-- Words and their fields: the fields of a packed word are what was packed, a packed word has its shape, and a word of a shape is the packing of its fields.
+use mathlib.Core.Path.{_≡_, refl, sym, ap, _∙_}
+use mathlib.Core.Bool.{Bool, true, false, _&&_, not, and-eq-true-iff}
+use Prim.Native.Nat.{ℕ, zero, suc, _+_, _-_, _*_, _/_, _%_, _^_, _≤_, _<_}
+use native.Mathlib.Nat.{mod-lt, zero-add, zero-mul}
+use native.Mathlib.Omega.{arith}
+use lib.Dec.{eqb, leb}
+use lib.Pow.{pow-pos, split, shr-mod, mod-pow-add}
+use borrow.Author.Tests.{eqb-true, eqb-false, eq-eqb, ne-eqb, leb-true, le-leb, not-true}
+use Rattle.words.specs.Fields.{bits, kindOf, numberOf, symbolOf, arityOf, signOf, negativeOf, literalsOf, variablesOf, followingOf}
+use Rattle.words.specs.Fields.{plain, variableShaped, functionShaped, literalShaped, counted, clauseShaped}
+use Rattle.words.specs.Fields.{variableWord, functionWord, signBit, literalWord, clauseWord}
+
+not-zero : (n : ℕ) → not (eqb n 0) ≡ true → 1 ≤ n
+not-zero zero e = omega (arith, eqb-false 0 0 (not-true (eqb 0 0) e) refl)
+not-zero (suc n) e = omega arith
+
+-- a field is below the power that its width names
+pub bits-small : (from count w : ℕ) → bits from count w < 2 ^ count
+bits-small from count w = mod-lt (w / 2 ^ from) (pow-pos count)
+
+-- a word's kind, with the bits from a given one up to bit 29 zero
+module _ (kind from w : ℕ) where
+  pub plain-is : kindOf w ≡ kind → bits from (30 - from) w ≡ 0 → plain kind from w ≡ true
+  plain-is k z = rw (eq-eqb (kindOf w) kind k, eq-eqb (bits from (30 - from) w) 0 z)
+
+  pub plain-not : (kindOf w ≡ kind → ⊥) → plain kind from w ≡ false
+  plain-not n = rw (ne-eqb (kindOf w) kind n)
+
+  module _ (p : plain kind from w ≡ true) where
+    pub plain-kind : kindOf w ≡ kind
+    plain-kind = eqb-true (kindOf w) kind (and-eq-true-iff (eqb (kindOf w) kind) (eqb (bits from (30 - from) w) 0) .0 p .0)
+
+    pub plain-rest : bits from (30 - from) w ≡ 0
+    plain-rest = eqb-true (bits from (30 - from) w) 0 (and-eq-true-iff (eqb (kindOf w) kind) (eqb (bits from (30 - from) w) 0) .0 p .1)
+
+  pub plain-word : from ≤ 30 → w < 2 ^ 32 → plain kind from w ≡ true → w ≡ kind * 2 ^ 30 + w % 2 ^ from
+  plain-word f l p =
+      let top : w / 2 ^ 30 ≡ kind = sym (shr-mod 2 30 l) ∙ plain-kind p in
+      let thirty : 30 ≡ 30 - from + from = omega arith in
+      let rest : w % 2 ^ 30 ≡ w % 2 ^ from =
+      ap (λ (n : ℕ). w % 2 ^ n) thirty ∙ mod-pow-add w (30 - from) from
+      ∙ ap (λ (n : ℕ). n * 2 ^ from + w % 2 ^ from) (plain-rest p) ∙ rw (zero-mul, zero-add) in
+      sym (split w 30) ∙ rw (top, rest)
+
+-- variables
+module _ (n : ℕ) (small : n < 2 ^ 10) where
+  pub variable-kind : kindOf (variableWord n) ≡ 0
+  variable-kind = omega arith
+
+  pub variable-number : numberOf (variableWord n) ≡ n
+  variable-number = omega arith
+
+  pub variable-shaped : variableShaped (variableWord n) ≡ true
+  variable-shaped = plain-is 0 10 (variableWord n) (omega arith) (omega arith)
+
+pub variable-word : (w : ℕ) → w < 2 ^ 32 → variableShaped w ≡ true → w ≡ variableWord (numberOf w)
+variable-word w l s = omega (arith, plain-word 0 10 w (omega arith) l s)
+
+-- functions and constants
+module _ (f a : ℕ) (fs : f < 2 ^ 12) (small : a < 2 ^ 3) where
+  pub function-kind : kindOf (functionWord f a) ≡ 1
+  function-kind = omega arith
+
+  pub function-symbol : symbolOf (functionWord f a) ≡ f
+  function-symbol = omega arith
+
+  pub function-arity : arityOf (functionWord f a) ≡ a
+  function-arity = omega arith
+
+  pub function-shaped : a ≤ 4 → functionShaped (functionWord f a) ≡ true
+  unfolding functionShaped
+  function-shaped l =
+      rw
+      (plain-is 1 15 (functionWord f a) function-kind (omega arith), le-leb (arityOf (functionWord f a)) 4 (omega arith))
+
+module _ (w : ℕ) (s : functionShaped w ≡ true) where
+  pub function-plain : plain 1 15 w ≡ true
+  unfolding functionShaped
+  function-plain = and-eq-true-iff (plain 1 15 w) (leb (arityOf w) 4) .0 s .0
+
+  pub function-arity-small : arityOf w ≤ 4
+  unfolding functionShaped
+  function-arity-small = leb-true (arityOf w) 4 (and-eq-true-iff (plain 1 15 w) (leb (arityOf w) 4) .0 s .1)
+
+  pub function-word : w < 2 ^ 32 → w ≡ functionWord (symbolOf w) (arityOf w)
+  function-word l = omega (arith, plain-word 1 15 w (omega arith) l function-plain)
+
+  pub function-not-variable : variableShaped w ≡ false
+  function-not-variable = plain-not 0 10 w (λ e. omega (arith, plain-kind 1 15 w function-plain))
+
+-- literals
+module _ (p a : ℕ) (ps : p < 2 ^ 12) (small : a < 2 ^ 3) where
+  pub literal-kind : (b : Bool) → kindOf (literalWord b p a) ≡ 2
+  literal-kind true = omega arith
+  literal-kind false = omega arith
+
+  pub literal-predicate : (b : Bool) → symbolOf (literalWord b p a) ≡ p
+  literal-predicate true = omega arith
+  literal-predicate false = omega arith
+
+  pub literal-arity : (b : Bool) → arityOf (literalWord b p a) ≡ a
+  literal-arity true = omega arith
+  literal-arity false = omega arith
+
+  pub literal-negative : (b : Bool) → negativeOf (literalWord b p a) ≡ b
+  literal-negative true = eq-eqb (signOf (literalWord true p a)) 1 (omega arith)
+  literal-negative false = ne-eqb (signOf (literalWord false p a)) 1 (λ e. omega arith)
+
+  pub literal-rest : (b : Bool) → bits 16 14 (literalWord b p a) ≡ 0
+  literal-rest true = omega arith
+  literal-rest false = omega arith
+
+  pub literal-shaped : (b : Bool) → a ≤ 4 → literalShaped (literalWord b p a) ≡ true
+  unfolding literalShaped
+  literal-shaped b l =
+      rw (plain-is 2 16 (literalWord b p a) (literal-kind b) (literal-rest b), literal-arity b, le-leb a 4 l)
+
+pub sign-bit : (n : ℕ) → n < 2 → signBit (eqb n 1) ≡ n * 2 ^ 15
+sign-bit zero h = refl
+sign-bit (suc zero) h = refl
+sign-bit (suc (suc n)) h = omega arith
+
+module _ (w : ℕ) (s : literalShaped w ≡ true) where
+  pub literal-plain : plain 2 16 w ≡ true
+  unfolding literalShaped
+  literal-plain = and-eq-true-iff (plain 2 16 w) (leb (arityOf w) 4) .0 s .0
+
+  pub literal-arity-small : arityOf w ≤ 4
+  unfolding literalShaped
+  literal-arity-small = leb-true (arityOf w) 4 (and-eq-true-iff (plain 2 16 w) (leb (arityOf w) 4) .0 s .1)
+
+  pub literal-word : w < 2 ^ 32 → w ≡ literalWord (negativeOf w) (symbolOf w) (arityOf w)
+  literal-word l =
+      rw (sign-bit (signOf w) (bits-small 15 1 w)) (omega (arith, plain-word 2 16 w (omega arith) l literal-plain))
+
+-- clauses
+module _ (l v f : ℕ) (ls : l < 2 ^ 3) (vs : v < 2 ^ 5) (small : f < 2 ^ 8) where
+  pub clause-kind : kindOf (clauseWord l v f) ≡ 3
+  clause-kind = omega arith
+
+  pub clause-literals : literalsOf (clauseWord l v f) ≡ l
+  clause-literals = omega arith
+
+  pub clause-variables : variablesOf (clauseWord l v f) ≡ v
+  clause-variables = omega arith
+
+  pub clause-following : followingOf (clauseWord l v f) ≡ f
+  clause-following = omega arith
+
+  pub clause-shaped : 1 ≤ l → v ≤ 16 → 1 ≤ f → clauseShaped (clauseWord l v f) ≡ true
+  unfolding clauseShaped counted
+  clause-shaped lp vl fp =
+      rw (
+        plain-is 3 16 (clauseWord l v f) clause-kind (omega arith),
+        clause-literals,
+        clause-variables,
+        clause-following,
+        ne-eqb l 0 (λ e. omega arith),
+        ne-eqb f 0 (λ e. omega arith),
+        le-leb v 16 vl,
+      )
+
+module _ (w : ℕ) (s : clauseShaped w ≡ true) where
+  pub clause-plain : plain 3 16 w ≡ true
+  unfolding clauseShaped
+  clause-plain = and-eq-true-iff (plain 3 16 w) (counted w) .0 s .0
+
+  clause-counted : counted w ≡ true
+  unfolding clauseShaped
+  clause-counted = and-eq-true-iff (plain 3 16 w) (counted w) .0 s .1
+
+  some-counted : not (eqb (literalsOf w) 0) && not (eqb (followingOf w) 0) ≡ true
+  unfolding counted
+  some-counted = and-eq-true-iff (not (eqb (literalsOf w) 0) && not (eqb (followingOf w) 0)) (leb (variablesOf w) 16) .0 clause-counted .0
+
+  pub clause-variables-small : variablesOf w ≤ 16
+  unfolding counted
+  clause-variables-small =
+      leb-true (variablesOf w) 16
+      (and-eq-true-iff (not (eqb (literalsOf w) 0) && not (eqb (followingOf w) 0)) (leb (variablesOf w) 16) .0 clause-counted .1)
+
+  pub clause-literals-some : 1 ≤ literalsOf w
+  clause-literals-some =
+      not-zero (literalsOf w) (and-eq-true-iff (not (eqb (literalsOf w) 0)) (not (eqb (followingOf w) 0)) .0 some-counted .0)
+
+  pub clause-following-some : 1 ≤ followingOf w
+  clause-following-some =
+      not-zero (followingOf w) (and-eq-true-iff (not (eqb (literalsOf w) 0)) (not (eqb (followingOf w) 0)) .0 some-counted .1)
+
+  pub clause-word : w < 2 ^ 32 → w ≡ clauseWord (literalsOf w) (variablesOf w) (followingOf w)
+  clause-word l = omega (arith, plain-word 3 16 w (omega arith) l clause-plain)
