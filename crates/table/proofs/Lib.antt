@@ -1,0 +1,16 @@
+pub mod Opened
+pub mod Bools
+pub mod Terms
+pub mod Clauses
+pub mod Bodies
+pub mod Files
+pub mod Accepted
+pub mod Lookups
+pub mod Decoding
+pub mod BodyDecoding
+pub mod Encoding
+pub mod Positions
+pub mod AcceptedTable
+pub mod FileEncoding
+pub mod Meaning
+pub mod Examples

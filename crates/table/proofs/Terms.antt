@@ -1,0 +1,84 @@
+-- The outcomes of reading terms, one law for each, with premises as the code has them.
+use mathlib.Core.Path.{_≡_, refl, sym, _∙_}
+use mathlib.Core.Bool.{Bool, true, false}
+use mathlib.Core.List.{List, _∷_}
+use Prim.Native.Nat.{ℕ, suc, _+_, _-_, _≤_, _<_}
+use native.Mathlib.Nat.{zero-add}
+use native.Mathlib.Numerals.{add-one}
+use native.Mathlib.Omega.{arith}
+use lib.Dec.{ltb}
+use lib.ListN.{length, drop, getD, drop-of-length-le}
+use lib.Seq.{drop-cons}
+use Rattle.words.specs.Fields.{numberOf, arityOf, variableShaped, functionShaped}
+use Rattle.table.specs.Reading.{variableFits, termArity, afterTerm, after, stopsShort, onward, fault}
+use Rattle.table.specs.Readers.{goesOn, Lies, TermRead, TermsRead}
+use Rattle.table.specs.declared.read.Reading.{Reading}
+use Rattle.table.specs.declared.read.Reading.the-variants.{Next, Wrong}
+
+module _ (v w : ℕ) where
+  pub shaped-variable : {q : Bool} {n : ℕ} → q ≡ variableShaped w → q ≡ true → n ≡ numberOf w → ltb n v ≡ variableFits v w
+  shaped-variable e p d = rw (sym e ∙ p, d)
+
+  pub unshaped-variable : {q : Bool} → q ≡ variableShaped w → q ≡ false → false ≡ variableFits v w
+  unshaped-variable e p = rw (sym e ∙ p)
+
+-- a list from a place on: the word there, and the list from the next place on
+pub from-place : (own : List ℕ) (at : ℕ) → at < length own → drop at own ≡ getD own at 0 ∷ drop (at + 1) own
+from-place own at h = rw (add-one, drop-cons own at 0 h)
+
+module _ {v : ℕ} {own : List ℕ} {at : ℕ} where
+  pub term-missing : length own ≤ at → at ≤ length own → TermRead v own at (Wrong at)
+  unfolding fault stopsShort
+  term-missing h k = record { faults = λ l t. rw (drop-of-length-le own h); lies = k }
+
+  module _ (h : at < length own) where
+    pub term-variable : {q : Bool} → q ≡ variableFits v (getD own at 0) → q ≡ true → TermRead v own at (Next (at + 1))
+    unfolding fault onward after afterTerm termArity
+    term-variable e p =
+        record { faults = λ l t. rw (from-place own at h, sym e ∙ p, zero-add); lies = (omega arith, omega arith) }
+
+    module _ {q : Bool} (e : q ≡ variableFits v (getD own at 0)) (p : q ≡ false) {f : Bool} (ef : f ≡ functionShaped (getD own at 0)) where
+      pub term-function : f ≡ true → {a : ℕ} → a ≡ arityOf (getD own at 0) → {r : Reading} → TermsRead v own (at + 1) a r → TermRead v own at r
+      unfolding fault onward after afterTerm termArity
+      term-function pf {a} ea {r} read = record {
+        faults = λ l t. rw (from-place own at h, sym e ∙ p, sym ef ∙ pf, ← ea) (read .faults l t);
+        lies = rw add-one at (read .lies);
+      }
+
+      pub term-wrong : f ≡ false → TermRead v own at (Wrong at)
+      unfolding fault onward after afterTerm termArity
+      term-wrong pf =
+          record { faults = λ l t. rw (from-place own at h, sym e ∙ p, sym ef ∙ pf); lies = omega arith }
+
+-- how far the reading of so many terms has come: so many are left from the next place on
+pub record Going (v : ℕ) (own : List ℕ) (at many next left : ℕ) : Type 0 where
+  pub from : at ≤ next
+  pub within : next ≤ length own
+  pub same : (l t : ℕ) → fault v l (many + t) at (drop at own) ≡ fault v l (left + t) next (drop next own)
+
+module _ {v : ℕ} {own : List ℕ} {at many : ℕ} where
+  pub terms-begin : at ≤ length own → Going v own at many at many
+  terms-begin h = record { from = omega arith; within = h; same = λ l t. refl }
+
+  module _ {next left : ℕ} (g : Going v own at many next left) where
+    pub terms-done : left ≤ 0 → TermsRead v own at many (Next next)
+    terms-done h =
+        record {
+          faults = λ l t. let z : left + t ≡ t = omega arith in rw z at (g .same l t);
+          lies = (g .from, g .within);
+        }
+
+    module _ (some : 0 < left) {r : Reading} (read : TermRead v own next r) where
+      one-fewer : (l t : ℕ) → fault v l (many + t) at (drop at own) ≡ goesOn v own l (left - 1 + t) r
+      one-fewer l t =
+          let z : left + t ≡ suc (left - 1 + t) = omega arith in rw z at (g .same l t) ∙ read .faults l (left - 1 + t)
+
+      pub terms-wrong : {place : ℕ} → r ≡ Wrong place → TermsRead v own at many r
+      terms-wrong {place} e = record { faults = λ l t. rw e (rw e at (one-fewer l t)); lies = rw e (rw e at (read .lies)) }
+
+      pub terms-next : {further : ℕ} → r ≡ Next further → Going v own at many further (left - 1)
+      terms-next {further} e =
+          let lies : Lies (suc next) (length own) (Next further) = rw e at (read .lies) in
+          record { from = omega (arith, g .from); within = lies .1; same = λ l t. rw e at (one-fewer l t) }
+
+pub ruleset terms-laws = (term-missing, term-variable, term-function, term-wrong, terms-begin, terms-done, terms-wrong, terms-next)
