@@ -1,0 +1,66 @@
+-- A play keeps a most general solution of its closed pairs, and a step is performed exactly where the rules allow it and the pairs stay unifiable.
+use mathlib.Core.List.{List, _∷_}
+use mathlib.Core.Option.{Option, none, some}
+use mathlib.Core.Path.{_≡_, refl, sym, ap}
+use Prim.Native.Nat.{ℕ}
+use Rattle.words.specs.declared.Step.{Step}
+use Rattle.table.specs.Syntax.{Table}
+use Rattle.rules.specs.Substitution.{Pair, Unifiable, MostGeneral}
+use Rattle.rules.specs.Unify.{solution, Unified, made, clash, circle, unify}
+use Rattle.rules.specs.Tableau.{Tableau, start, stepped, closing}
+use Rattle.rules.specs.Play.{Play, begin, Performed, goes-on, not-possible, clashes, circular, boundBy, newest, performed, perform}
+use Rattle.rules.proofs.Unify.{Stands, stands-general, stands-unifiable, stands-none, stands-more, clash-not-unifiable, circle-not-unifiable}
+use Rattle.rules.proofs.Steps.{Does, reduces, extends, does}
+
+-- The bindings stand for the closed pairs: a substitution satisfies them exactly if it makes the pairs equal.
+abbrev pub Sound : Play → Type 0
+Sound p = Stands (p .bindings) (p .tableau .pairs)
+
+pub most-general : (p : Play) → Sound p → MostGeneral (solution (p .bindings)) (p .tableau .pairs)
+most-general p h = stands-general (p .bindings) (p .tableau .pairs) h
+
+pub unifiable : (p : Play) → Sound p → Unifiable (p .tableau .pairs)
+unifiable p h = stands-unifiable (p .bindings) (p .tableau .pairs) h
+
+pub sound-begin : (t : Table) → Sound (begin t)
+unfolding begin start
+sound-begin t = stands-none
+
+-- a step adds one pair
+one-more : {t : Table} {bound : ℕ} {x y : Tableau} {s : Step} → Does t bound x s y → (p : Pair) × (y .pairs ≡ p ∷ x .pairs)
+one-more (reduces {leaf = leaf} {m = m} l a f e) = (closing (leaf .literal) m, ap (λ (z : Tableau). z .pairs) (sym e))
+one-more (extends {leaf = leaf} {m = m} l u k a f e) = (closing (leaf .literal) m, ap (λ (z : Tableau). z .pairs) (sym e))
+
+pub stepped-one-more :
+    (t : Table) (bound : ℕ) (x : Tableau) (s : Step) {y : Tableau} → stepped t bound x s ≡ some y → (p : Pair) × (y .pairs ≡ p ∷ x .pairs)
+stepped-one-more t bound x s e = one-more (does s e)
+
+module _ (t : Table) (bound : ℕ) (p : Play) (s : Step) where
+  -- what is known when a step was performed, or was not
+  abbrev pub Told : Performed → Type 0
+  Told (goes-on q) = (stepped t bound (p .tableau) s ≡ some (q .tableau)) × Sound q
+  Told not-possible = stepped t bound (p .tableau) s ≡ none
+  Told clashes = (y : Tableau) × (stepped t bound (p .tableau) s ≡ some y) × (¬ Unifiable (y .pairs))
+  Told circular = (y : Tableau) × (stepped t bound (p .tableau) s ≡ some y) × (¬ Unifiable (y .pairs))
+
+  module _ (h : Sound p) (y : Tableau) (e : stepped t bound (p .tableau) s ≡ some y) (a : Pair) (f : y .pairs ≡ a ∷ p .tableau .pairs) where
+    told-bound : (r : Unified) → unify (p .bindings) (a .left) (a .right) ≡ r → Told (boundBy y r)
+    unfolding boundBy
+    told-bound (made bs) u = (e, rw f (stands-more (p .bindings) (p .tableau .pairs) h a u))
+    told-bound clash u = (y, e, rw f (clash-not-unifiable (p .bindings) (p .tableau .pairs) h a u))
+    told-bound circle u = (y, e, rw f (circle-not-unifiable (p .bindings) (p .tableau .pairs) h a u))
+
+    told-newest : (ps : List Pair) → ps ≡ a ∷ p .tableau .pairs → Told (newest (p .bindings) y ps)
+    unfolding newest
+    told-newest ps k = rw k (told-bound (unify (p .bindings) (a .left) (a .right)) refl)
+
+  told-performed : Sound p → (o : Option Tableau) → stepped t bound (p .tableau) s ≡ o → Told (performed (p .bindings) o)
+  unfolding performed
+  told-performed h none e = e
+  told-performed h (some y) e =
+      let f = stepped-one-more t bound (p .tableau) s e in
+      told-newest h y e (f .0) (f .1) (y .pairs) (f .1)
+
+  pub told : Sound p → Told (perform t bound p s)
+  unfolding perform
+  told h = told-performed h (stepped t bound (p .tableau) s) refl

@@ -1,0 +1,12 @@
+pub mod Substitution
+pub mod Unify
+pub mod Tableau
+pub mod Order
+pub mod Answer
+pub mod Truth
+pub mod Verdict
+pub mod System
+pub mod Play
+pub mod Growing
+pub mod Reordered
+pub mod Demands

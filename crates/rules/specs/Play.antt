@@ -1,0 +1,124 @@
+-- Machinery: steps played one by one with the bindings made so far, the checker and the search as programs. No demand is stated by how
+-- they go about it; proofs/Demands.antt shows that they come to the verdicts of specs/Verdict.antt.
+use lib.ListN.{length}
+use mathlib.Core.Bool.{Bool, true, false}
+use mathlib.Core.List.{List, [], _∷_}
+use mathlib.Core.Option.{Option, none, some}
+use Prim.Native.Nat.{ℕ, zero, suc, pred, _+_, _*_, _-_, max}
+use Rattle.words.specs.declared.Step.{Step}
+use Rattle.words.specs.declared.Step.the-variants.{Reduction, Extension, Malformed}
+use Rattle.table.specs.Syntax.{Clause, Table, allClauses}
+use Rattle.rules.specs.Substitution.{Pair}
+use Rattle.rules.specs.Unify.{Bindings, solution, Unified, made, clash, circle, unify}
+use Rattle.rules.specs.Tableau.{Leaf, Tableau, start, stepped}
+use Rattle.rules.specs.Order.{candidates}
+use Rattle.rules.specs.Answer.{answerWords}
+use Rattle.rules.specs.Verdict.{Refusal, malformed, not-allowed, not-unified, leaves-open, CheckVerdict, accepted, refused, SearchVerdict, finds, finds-none, runs-out}
+use Rattle.rules.specs.System.{System}
+use Rattle.rules.specs.System.Run.{Result, found, no-way, ran-out, search}
+
+pub record Play : Type 0 where
+  pub tableau : Tableau
+  pub bindings : Bindings
+
+unfoldable pub begin : Table → Play
+begin t = record { tableau = start t; bindings = [] }
+
+pub data Performed : Type 0 where
+  goes-on : Play → Performed
+  not-possible : Performed
+  clashes : Performed
+  circular : Performed
+
+unfoldable pub boundBy : Tableau → Unified → Performed
+boundBy y (made bs) = goes-on (record { tableau = y; bindings = bs })
+boundBy y clash = clashes
+boundBy y circle = circular
+
+-- the newest pair is made equal under what is bound
+unfoldable pub newest : Bindings → Tableau → List Pair → Performed
+newest bs y [] = not-possible
+newest bs y (p ∷ ps) = boundBy y (unify bs (p .left) (p .right))
+
+unfoldable pub performed : Bindings → Option Tableau → Performed
+performed bs none = not-possible
+performed bs (some y) = newest bs y (y .pairs)
+
+unfoldable pub perform : Table → ℕ → Play → Step → Performed
+perform t bound p s = performed (p .bindings) (stepped t bound (p .tableau) s)
+
+-- the checker
+pub data Checking : Type 0 where
+  passed : Play → Checking
+  stopped : Refusal → ℕ → Checking
+
+unfoldable pub atEnd : Play → ℕ → List Leaf → Checking
+atEnd p place [] = passed p
+atEnd p place (leaf ∷ rest) = stopped leaves-open place
+
+unfoldable pub refusal : Step → Refusal
+refusal (Reduction height) = not-allowed
+refusal (Extension clause literal) = not-allowed
+refusal Malformed = malformed
+
+unfoldable pub onwards : Performed → Step → ℕ → (Play → Checking) → Checking
+onwards (goes-on p) s place next = next p
+onwards not-possible s place next = stopped (refusal s) place
+onwards clashes s place next = stopped not-unified place
+onwards circular s place next = stopped not-unified place
+
+unfoldable pub checkFrom : Table → ℕ → Play → ℕ → List Step → Checking
+checkFrom t bound p place [] = atEnd p place (p .tableau .leaves)
+checkFrom t bound p place (s ∷ ss) = onwards (perform t bound p s) s place (λ q. checkFrom t bound q (suc place) ss)
+
+unfoldable pub check : Table → ℕ → List Step → Checking
+check t bound steps = checkFrom t bound (begin t) 0 steps
+
+unfoldable pub checked : Checking → CheckVerdict
+checked (passed p) = accepted (p .tableau)
+checked (stopped r place) = refused r place
+
+-- the search
+unfoldable pub afterwards : Performed → Option Play
+afterwards (goes-on p) = some p
+afterwards not-possible = none
+afterwards clashes = none
+afterwards circular = none
+
+unfoldable pub allClosed : List Leaf → Bool
+allClosed [] = true
+allClosed (leaf ∷ rest) = false
+
+abbrev pub plays : Table → ℕ → System
+plays t bound =
+    record {
+      State = Play;
+      Move = Step;
+      done = λ p. allClosed (p .tableau .leaves);
+      moves = λ p. candidates t bound (p .tableau);
+      next = λ p s. afterwards (perform t bound p s);
+    }
+
+-- the most leaves that an extension can add to those that are open, the leaf it closes left out
+unfoldable pub mostAdded : List Clause → ℕ
+mostAdded [] = zero
+mostAdded (c ∷ cs) = max (pred (length (c .literals))) (mostAdded cs)
+
+-- the most steps that can be taken from a tableau
+unfoldable pub stepsLeft : Table → ℕ → Tableau → ℕ
+stepsLeft t bound x = length (x .leaves) + mostAdded (allClauses t) * (bound - x .extensions)
+
+unfoldable pub reported : ℕ → Result Step → SearchVerdict
+reported budget (found steps left) = finds steps (budget - left)
+reported budget (no-way left) = finds-none (budget - left)
+reported budget ran-out = runs-out budget
+
+unfoldable pub searchFor : Table → ℕ → ℕ → SearchVerdict
+searchFor t bound budget = reported budget (search (plays t bound) (suc (stepsLeft t bound (start t))) budget (begin t))
+
+-- the answer of a play that has come to its end
+unfoldable pub answerOf : Table → Play → List ℕ
+answerOf t p = answerWords (solution (p .bindings)) t (p .tableau)
+
+unfoldable pub disjunctsOf : Play → ℕ
+disjunctsOf p = length (p .tableau .questions)
