@@ -1,0 +1,123 @@
+-- The search of an accepted file: what it begins with, and what it comes to.
+use mathlib.Core.Path.{_≡_, sym, ap, _∙_}
+use mathlib.Core.List.{List, [], _∷_, _++_}
+use Prim.Native.Nat.{ℕ, _+_, _-_, _^_, _≤_, _<_}
+use native.Mathlib.Omega.{arith}
+use borrow.Author.Tests.{eq-eqb}
+use lib.ListN.{length, take, drop, getD, replicate}
+use Rattle.table.specs.Body.{lastOf, starts}
+use Rattle.table.specs.File.{judge}
+use Rattle.table.specs.Syntax.{Clause}
+use Rattle.table.proofs.Accepted.{accepted}
+use Rattle.table.proofs.AcceptedTable.{words-each, body-readable, question-start, accepted-within}
+use Rattle.rules.specs.Play.{begin, check, plays, reported, searchFor}
+use Rattle.rules.specs.System.Run.{search}
+use Rattle.rules.specs.Tableau.{start, hang, copyOf}
+use Rattle.rules.proofs.Search.{any-depth-says, at-most-199-left}
+use Rattle.engine.specs.Calls.{tableIn}
+use Rattle.engine.specs.Ended as ended
+use Rattle.engine.specs.State.{startAt, copiesOf, ClauseAt, bindingsOf}
+use Rattle.engine.specs.Leaves.{questionsAmong}
+use Rattle.engine.specs.Ready.{openLeaves, Stands, Begun}
+use Rattle.engine.specs.Searching.{questionAt, Asked, roomAt, Treats, Leaves, Tells, Treated, Ends}
+use Rattle.engine.specs.declared.search.Ending.{Ending}
+use Rattle.engine.specs.declared.search.Ending.the-variants.{Found, Nothing, Out}
+use Rattle.engine.specs.declared.search.Searched.{Searched}
+use Rattle.engine.specs.declared.search.Task.{Task}
+use Rattle.engine.specs.declared.tableau.Place.{Place}
+use Rattle.engine.proofs.Places.{question-placed}
+use Rattle.engine.proofs.Cleared.{part-same, cleared-length, cleared-before, cleared-ended}
+
+-- an accepted file
+module _ (f : List ℕ) (z : judge f .status ≡ 0) {question : ℕ} (eq : question ≡ judge f .question) where
+  fits : length f - 4 ≤ length f
+  fits = omega arith
+
+  pub file-least : 4 ≤ length f
+  file-least = omega (arith, accepted f z .least)
+
+  pub file-most : length f ≤ 16000
+  file-most = accepted f z .most
+
+  pub question-last : question ≡ lastOf 0 (starts 0 0 (take (length f - 4) f))
+  question-last = eq ∙ sym (question-start f z)
+
+  pub question-clause : ClauseAt f question
+  question-clause = rw question-last (question-placed f (length f - 4) fits (body-readable f z) .0)
+
+  -- the start stands for the rules' own
+  module _ {m : List ℕ} {place : Place} (begun : Begun f m question place) where
+    begins : openLeaves f m place ≡ start (tableIn f) .leaves
+    unfolding start
+    begins =
+        let asked = question-placed f (length f - 4) fits (body-readable f z) .1 in
+        begun .leaves ∙ rw question-last (ap (λ (c : Clause). hang [] (copyOf 0 c)) asked)
+
+    first-question : questionsAmong m question (copiesOf m) ≡ 0 ∷ []
+    unfolding questionsAmong
+    first-question = rw (begun .copies, eq-eqb (startAt m 0) question (begun .start))
+
+    pub begun-stands : Stands f m question place (begin (tableIn f) .tableau) (begin (tableIn f) .bindings)
+    unfolding begin start bindingsOf
+    begun-stands =
+        record {
+          leaves = sym begins;
+          bindings = rw (begun .nothing-bound);
+          extensions = sym (begun .copies);
+          questions = sym first-question;
+        }
+
+  module _ (small : (i : ℕ) → getD f i 0 < 2 ^ 32) {bound : ℕ} (low : bound ≤ 32) where
+    abbrev task : Task
+    task = record { body = length f - 4; bound = bound }
+
+    pub file-asked : Asked f task
+    file-asked =
+        record {
+          fits = fits;
+          short = omega (arith, file-most);
+          readable = body-readable f z;
+          small = small;
+          low = low;
+        }
+
+    module _ {m : List ℕ} {place : Place} (begun : Begun f m question place) where
+      pub find-treats : Treats f m task place
+      find-treats = record { asked = file-asked; ready = begun .ready }
+
+      enough : roomAt f m task place ≤ 199
+      enough = omega (arith, begun .ready .taken, begun .ready .room, begun .copies, begun .steps)
+
+      stands : Stands f m (questionAt f task) place (begin (tableIn f) .tableau) (begin (tableIn f) .bindings)
+      stands = rw question-last at (begun-stands begun)
+
+      deep : (budget : ℕ) → searchFor (tableIn f) bound budget ≡ reported budget (search (plays (tableIn f) bound) 200 budget (begin (tableIn f)))
+      deep budget =
+          any-depth-says (tableIn f) bound 200 budget (omega (arith, at-most-199-left (tableIn f) (accepted-within f z (words-each f small)) bound low))
+
+      module _ {m₁ m₂ : List ℕ} {budget : ℕ} {r : Searched} (treated : Treated f m m₁ task place budget r)
+          (wipes : m₂ ≡ take 2240 m₁ ++ replicate 528 0 ++ drop (2240 + 528) m₁) where
+        pub find-ends : Ends (r .ending) f m₂ question bound budget r
+        unfolding reported check
+        find-ends = go (r .ending) (treated .leaves) (treated .tells (begin (tableIn f)) stands 199 enough)
+          where
+            go : (e : Ending) → Leaves e f m m₁ place r → Tells e f m₁ task place r (begin (tableIn f)) (search (plays (tableIn f) bound) 200 budget (begin (tableIn f)))
+                → Ends e f m₂ question bound budget r
+            go Found l h =
+                let steps : r .steps ≡ length (h .path) = omega (arith, h .count, begun .steps) in
+                let from : 1984 + place .steps ≡ 1984 = omega (arith, begun .steps) in
+                record {
+                  proof = h .path;
+                  play = h .play;
+                  says = deep budget ∙ ap (reported budget) (h .says);
+                  within = treated .within;
+                  count = steps;
+                  few = l .few;
+                  noted =
+                      part-same m₁ m₂ 1984 (r .steps) (cleared-length (l .good) wipes) (λ i k. cleared-before (l .good) wipes i (omega (arith, l .few)))
+                      ∙ rw steps (rw from at (h .noted));
+                  passes = h .passes 0;
+                  ended = cleared-ended (l .good) wipes (h .play) (h .bindings) (rw question-last (h .questions));
+                }
+            go Nothing l h = (deep budget ∙ ap (reported budget) h, treated .within)
+            go Out l h = deep budget ∙ ap (reported budget) h

@@ -1,0 +1,129 @@
+-- A candidate that is tried: what the step asks, and what it comes to.
+use mathlib.Core.Path.{_≡_, ap, _∙_}
+use mathlib.Core.List.{List}
+use Prim.Native.Nat.{ℕ, suc, _+_, _-_, _≤_, _<_}
+use native.Mathlib.Omega.{arith}
+use borrow.Author.Tests.{lt-ltb}
+use lib.ListN.{length, getD, length-append, length-map}
+use Rattle.words.specs.Steps.{wellFormed, stepWord, encoded}
+use Rattle.rules.specs.Tableau.{Leaf, hang}
+use Rattle.engine.specs.State.{copiesOf}
+use Rattle.engine.specs.Good.{wordAt}
+use Rattle.engine.specs.Leaves.{leavesFrom}
+use Rattle.engine.specs.Ready.{openLeaves, leafOf, restOf, Alike, Reducible, Reduced, Extensible, Hung, Extended, hangingAt}
+use Rattle.engine.specs.Scanning.{Enters, extensionAt}
+use Rattle.engine.specs.Searching.{tableAt, questionAt, Treats, Wanted, Against, Allows, Onward, Takes}
+use Rattle.engine.specs.declared.candidates.Scan.{Scan}
+use Rattle.engine.specs.declared.search.Move.the-variants.{Reduce, Enter}
+use Rattle.engine.specs.declared.search.Task.{Task}
+use Rattle.engine.specs.declared.tableau.Place.{Place}
+use Rattle.engine.specs.declared.tableau.Taken.{Taken}
+use Rattle.engine.proofs.Performed.{open-first, Literate, stands-literate, copy-word, copy-literate, alike-other, fits-other, reduction-comes, extension-comes}
+use Rattle.engine.proofs.Literals.{hanging-fewer, clause-few}
+use Rattle.engine.proofs.Entries.{clause-small, literal-small}
+
+module _ {f m : List ℕ} {task : Task} {place : Place} (treats : Treats f m task place) (some-open : 0 < place .head) where
+  -- the leaf that is treated
+  leaf-literate : Literate f m (leafOf m place)
+  leaf-literate = stands-literate f m (leafOf m place) (treats .ready .noted .stands (place .head - 1) (omega (arith, treats .ready .head)))
+
+  alike : (w : ℕ) → Wanted f m place w → Alike (wordAt f m (leafOf m place)) w
+  alike w e = alike-other (wordAt f m (leafOf m place)) w (leaf-literate .shaped) (treats .asked .small _) e
+
+  abbrev others : List Leaf
+  others = leavesFrom f m (place .leaves) (restOf m place)
+
+  one-open : length (openLeaves f m place) ≡ suc (length others)
+  one-open = ap length (open-first (treats .ready) some-open)
+
+  module _ {literal height : ℕ} (against : Against f m place literal height) where
+    pub reduces : Reducible f m place literal
+    reduces = record { ready = treats .ready; some-open = some-open; stands = against .stands; alike = alike (wordAt f m literal) (against .word) }
+
+    module _ {m′ : List ℕ} {r : Taken} (reduced : Reduced f m m′ place literal height r) where
+      reduced-onward : Onward f m m′ task place (r .place)
+      reduced-onward =
+          let fewer : length (openLeaves f m′ (r .place)) ≡ length others = ap length (reduced .leaves) in
+          let n = one-open in
+          record {
+            ready = reduced .ready;
+            leaves = omega (arith, reduced .ready .taken, treats .ready .taken, reduced .steps);
+            steps = reduced .steps;
+            falls = omega (arith, reduced .copies);
+          }
+
+      pub takes-reduction : Takes f m m′ task place (Reduce literal height) r
+      unfolding stepWord
+      takes-reduction =
+          record {
+            good = reduced .stepping .good;
+            later = reduced .stepping .later;
+            noted = reduced .stepping .noted;
+            comes = λ p stands. reduction-comes (tableAt f task) (task .bound) (treats .ready) some-open reduced p stands height (against .there)
+                (fits-other (treats .asked .small) leaf-literate (stands-literate f m literal (against .stands)) (against .word));
+            onward = λ e. reduced-onward;
+          }
+
+  module _ {scan : Scan} (allows : Allows f m task place (Enter scan)) where
+    enters : Enters f (tableAt f task) (questionAt f task) scan
+    enters = allows .0
+
+    abbrev offset : ℕ
+    offset = scan .at - scan .start
+
+    entered-at : scan .start + offset ≡ scan .at
+    entered-at = omega (arith, enters .later)
+
+    pub enter-later : scan .start ≤ scan .at
+    enter-later = omega (arith, enters .later)
+
+    pub enter-begun : 1 ≤ scan .clauses
+    enter-begun = enters .begun
+
+    pub extends : Extensible f m place (scan .start) offset
+    extends =
+        record {
+          ready = treats .ready;
+          some-open = some-open;
+          copies = omega (arith, allows .2, treats .asked .low);
+          clause = enters .begins;
+          number = scan .literals;
+          entered = enters .offset;
+          alike = rw entered-at (alike (getD f (scan .at) 0) (allows .1));
+        }
+
+    step-noted : encoded (extensionAt scan) ≡ stepWord (extensionAt scan)
+    unfolding encoded wellFormed
+    step-noted =
+        rw (
+          lt-ltb (scan .clauses - 1) 512 (clause-small f (task .body) (treats .asked .fits) (treats .asked .readable) enters),
+          lt-ltb (scan .literals) 8 (omega (arith, literal-small f (task .body) (treats .asked .fits) (treats .asked .readable) enters)),
+        )
+
+    module _ {m′ : List ℕ} {step : ℕ} {r : Taken} (written : step ≡ encoded (extensionAt scan)) (extended : Extended f m m′ place (scan .start) offset step r) where
+      hangs : Hung f m m′ place (r .place) (scan .start) offset → length (openLeaves f m′ (r .place)) ≡ length (hangingAt f (scan .start) offset) + length others
+      unfolding hang
+      hangs hung = ap length (hung .leaves) ∙ simp (length-append, length-map)
+
+      extended-onward : Hung f m m′ place (r .place) (scan .start) offset → Onward f m m′ task place (r .place)
+      extended-onward hung =
+          let more = hangs hung in
+          let n = one-open in
+          let few : length (hangingAt f (scan .start) offset) ≤ 6 = omega (arith, hanging-fewer (enters .begins) (scan .literals) (enters .offset), clause-few (enters .begins)) in
+          record {
+            ready = hung .ready;
+            leaves = omega (arith, hung .ready .taken, treats .ready .taken, hung .steps);
+            steps = hung .steps;
+            falls = omega (arith, extended .copies, allows .2);
+          }
+
+      pub takes-extension : Takes f m m′ task place (Enter scan) r
+      takes-extension =
+          record {
+            good = extended .stepping .good;
+            later = extended .stepping .later;
+            noted = extended .stepping .noted ∙ written ∙ step-noted;
+            comes = λ p stands. extension-comes (tableAt f task) (task .bound) (treats .ready) some-open scan enters extended (allows .2) p stands
+                (fits-other (treats .asked .small) leaf-literate (copy-literate (enters .literal) m′ (copiesOf m) (extended .starts)) (copy-word (enters .literal) m′ (copiesOf m) (extended .starts) ∙ ap (λ (k : ℕ). getD f k 0) entered-at ∙ allows .1));
+            onward = λ e. extended-onward (extended .hung e);
+          }

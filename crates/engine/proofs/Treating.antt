@@ -1,0 +1,229 @@
+-- A leaf is treated: its reductions, then its extensions, unless the bound's are used.
+use mathlib.Core.Path.{_≡_, refl, sym, ap, ap₂, _∙_}
+use mathlib.Core.Bool.{false, cond}
+use mathlib.Core.List.{List, [], _∷_, _++_}
+use Prim.Native.Nat.{ℕ, suc, _+_, _-_, _/_, _^_, _≤_, _<_}
+use native.Mathlib.Omega.{arith}
+use borrow.Author.Tests.{lt-ltb, le-ltb}
+use lib.Dec.{ltb}
+use lib.ListN.{length, take, drop, getD}
+use lib.Seq.{getD-take, length-take-le}
+use Rattle.words.specs.Fields.{variablesOf}
+use Rattle.words.specs.declared.Step.{Step}
+use Rattle.table.specs.Limits.{Words}
+use Rattle.table.specs.Syntax.{allClauses}
+use Rattle.table.proofs.AcceptedTable.{words-each}
+use Rattle.table.proofs.BodyDecoding.{each-take}
+use Rattle.rules.specs.Order.{candidates, candidatesAt, extensions}
+use Rattle.rules.specs.Play.{Play, atEnd, checkFrom, allClosed, plays}
+use Rattle.rules.specs.System.Run.{Result, found, no-way, after, search, row}
+use Rattle.rules.specs.Tableau.{Leaf, fresh}
+use Rattle.rules.proofs.System.Steps.{search-done, search-open, row-end}
+use Rattle.engine.specs.State.{startAt, copiesOf, nextAt, wordsAt, literalAtReference}
+use Rattle.engine.specs.Good.{wordAt, Inside}
+use Rattle.engine.specs.Leaves.{leafAt}
+use Rattle.engine.specs.Ready.{openLeaves, Stands, leafOf}
+use Rattle.engine.specs.Scanning.{begun, pastWord, entriesFrom, Standing, NextEntry, otherSign, extensionAt, extensionsFrom}
+use Rattle.engine.specs.Searching.{without, tableAt, questionAt, roomAt, Treats, Wanted, Allows, Again, Leaves, Tells, Treated, Rowed, reductionsAt, extensionsAt}
+use Rattle.engine.specs.declared.candidates.Scan.{Scan}
+use Rattle.engine.specs.declared.search.Ending.{Ending}
+use Rattle.engine.specs.declared.search.Ending.the-variants.{Found, Nothing, Out}
+use Rattle.engine.specs.declared.search.Move.the-variants.{Enter}
+use Rattle.engine.specs.declared.search.Searched.{Searched}
+use Rattle.engine.specs.declared.search.Task.{Task}
+use Rattle.engine.specs.declared.tableau.Place.{Place}
+use Rattle.engine.proofs.Chains.{chain-none}
+use Rattle.engine.proofs.Scans.{standing-begin}
+use Rattle.engine.proofs.Entries.{extensions-begin, extensions-next, extensions-done, next-enters}
+use Rattle.engine.proofs.Performed.{open-first, Literate, stands-literate, stands-inside}
+use Rattle.engine.proofs.Again.{stands-again, again-then}
+use Rattle.engine.proofs.Attempts.{nothing-told}
+use Rattle.engine.proofs.Climbs.{leaf-stays, leaf-word-stays}
+use Rattle.engine.proofs.Rows.{row-append, tells-by, room-again, treats-again, Rowing, rowing-begin, rowing-by, rowing-end}
+
+module _ {f m : List ℕ} {task : Task} {place : Place} (treats : Treats f m task place) where
+  -- no leaf is open
+  module _ (closed : place .head ≡ 0) where
+    none-open : openLeaves f m place ≡ []
+    none-open = rw closed (chain-none (leafAt f m) (nextAt m) (place .leaves))
+
+    pub treat-closed : (left : ℕ) → Treated f m m task place left (record { ending = Found; left = left; steps = place .steps })
+    unfolding allClosed checkFrom atEnd
+    treat-closed left =
+        record {
+          leaves =
+              record {
+                good = treats .ready .good;
+                few = omega (arith, treats .ready .taken, treats .ready .room, treats .ready .good .copies);
+                earlier = λ i l. refl;
+              };
+          within = omega arith;
+          tells = λ p stands depth enough.
+              let none : p .tableau .leaves ≡ [] = stands .leaves ∙ none-open in
+              record {
+                path = [];
+                play = p;
+                says = search-done (plays (tableAt f task) (task .bound)) depth left p (rw none);
+                passes = λ at. rw none;
+                bindings = stands .bindings;
+                questions = stands .questions;
+                count = omega arith;
+                noted = refl;
+              };
+        }
+
+  module _ (some-open : 0 < place .head) where
+    leaf-literate : Literate f m (leafOf m place)
+    leaf-literate = stands-literate f m (leafOf m place) (treats .ready .noted .stands (place .head - 1) (omega (arith, treats .ready .head)))
+
+    pub treat-small : (length m ≡ 16384) × (0 < place .head) × (place .head ≤ 231)
+    treat-small = (treats .ready .good .size, some-open, omega (arith, treats .ready .head, treats .ready .room, treats .ready .good .copies))
+
+    pub treat-inside : {literal : ℕ} → literal ≡ leafOf m place → Inside f m literal
+    treat-inside e = rw e (stands-inside f m (leafOf m place) (treats .ready .good) (treats .ready .noted .stands (place .head - 1) (omega (arith, treats .ready .head))))
+
+    pub treat-wanted : {literal word wanted : ℕ} → literal ≡ leafOf m place → word ≡ wordAt f m literal → wanted ≡ otherSign word → Wanted f m place wanted
+    treat-wanted el ew e = rw (← el, ← ew) e
+
+    -- the candidates of the leaf
+    listed : (p : Play) → Stands f m (questionAt f task) place (p .tableau) (p .bindings)
+        → candidates (tableAt f task) (task .bound) (p .tableau) ≡ reductionsAt f m place ++ cond (ltb (p .tableau .extensions) (task .bound)) (extensionsAt f m task place) []
+    unfolding candidates candidatesAt
+    listed p stands = rw (stands .leaves, open-first (treats .ready) some-open, stands .extensions)
+
+    searched : (p : Play) → Stands f m (questionAt f task) place (p .tableau) (p .bindings) → (depth left : ℕ)
+        → search (plays (tableAt f task) (task .bound)) (suc depth) left p
+        ≡ after (row (plays (tableAt f task) (task .bound)) depth left p (reductionsAt f m place))
+        (λ rest. row (plays (tableAt f task) (task .bound)) depth rest p (cond (ltb (p .tableau .extensions) (task .bound)) (extensionsAt f m task place) []))
+    unfolding allClosed
+    searched p stands depth left =
+        let more : allClosed (p .tableau .leaves) ≡ false = rw (stands .leaves, open-first (treats .ready) some-open) in
+        search-open (plays (tableAt f task) (task .bound)) depth left p more
+        ∙ ap (row (plays (tableAt f task) (task .bound)) depth left p) (listed p stands)
+        ∙ row-append (plays (tableAt f task) (task .bound)) depth p (reductionsAt f m place) _ left
+
+    module _ {m₁ : List ℕ} {left : ℕ} {r : Searched} (reduced : Rowed f m m₁ task place left r (reductionsAt f m place)) where
+      -- a reduction found a proof, or the budget ended
+      pub treat-ended : (r .ending ≡ Nothing → ⊥) → Treated f m m₁ task place left r
+      unfolding after
+      treat-ended settled =
+          record {
+            leaves = reduced .leaves;
+            within = reduced .within;
+            tells = λ p stands depth enough. go (r .ending) p depth settled (reduced .tells p stands depth enough) _ (searched p stands depth left);
+          }
+        where
+          go : (e : Ending) (p : Play) (depth : ℕ) → (e ≡ Nothing → ⊥) → Tells e f m₁ task place r p (row (plays (tableAt f task) (task .bound)) depth left p (reductionsAt f m place))
+              → (others : ℕ → Result Step) → search (plays (tableAt f task) (task .bound)) (suc depth) left p ≡ after (row (plays (tableAt f task) (task .bound)) depth left p (reductionsAt f m place)) others
+              → Tells e f m₁ task place r p (search (plays (tableAt f task) (task .bound)) (suc depth) left p)
+          go Found p depth s h others same = tells-by f m₁ task place r p Found (same ∙ ap (λ (a : Result Step). after a others) (h .says) ∙ sym (h .says)) h
+          go Nothing p depth s h others same = absurd (s refl)
+          go Out p depth s h others same = same ∙ ap (λ (a : Result Step). after a others) h
+
+      module _ (nothing : r .ending ≡ Nothing) where
+        back : Again f m m₁ place
+        back = rw nothing at (reduced .leaves)
+
+        pub treat-again : Treats f m₁ task place
+        treat-again = treats-again treats back
+
+        pub treat-room : roomAt f m₁ task place ≡ roomAt f m task place
+        treat-room = room-again task (treats .ready) back
+
+        pub treat-wanted-again : {wanted : ℕ} → Wanted f m place wanted → Wanted f m₁ place wanted
+        treat-wanted-again e = e ∙ ap otherSign (sym (leaf-word-stays (treats .ready) some-open (back .later)))
+
+        onwards : (p : Play) → Stands f m (questionAt f task) place (p .tableau) (p .bindings) → (depth : ℕ) → roomAt f m task place ≤ depth
+            → search (plays (tableAt f task) (task .bound)) (suc depth) left p
+            ≡ row (plays (tableAt f task) (task .bound)) depth (r .left) p (cond (ltb (p .tableau .extensions) (task .bound)) (extensionsAt f m task place) [])
+        unfolding after
+        onwards p stands depth enough =
+            searched p stands depth left
+            ∙ ap (λ (a : Result Step). after a (λ rest. row (plays (tableAt f task) (task .bound)) depth rest p (cond (ltb (p .tableau .extensions) (task .bound)) (extensionsAt f m task place) [])))
+            (nothing-told f m₁ task place r p _ (r .ending) nothing (reduced .tells p stands depth enough))
+
+        -- the bound's extensions are used
+        pub treat-used : task .bound < copiesOf m₁ → Treated f m m₁ task place left r
+        treat-used used =
+            record {
+              leaves = reduced .leaves;
+              within = reduced .within;
+              tells = λ p stands depth enough.
+                  let full : task .bound ≤ p .tableau .extensions = omega (arith, stands .extensions, back .copies) in
+                  let none : row (plays (tableAt f task) (task .bound)) depth (r .left) p (cond (ltb (p .tableau .extensions) (task .bound)) (extensionsAt f m task place) []) ≡ no-way (r .left) =
+                  rw (le-ltb (p .tableau .extensions) (task .bound) full) (row-end (plays (tableAt f task) (task .bound)) depth (r .left) p) in
+                  tells-by f m₁ task place r p (r .ending)
+                  (onwards p stands depth enough ∙ none ∙ sym (nothing-told f m₁ task place r p _ (r .ending) nothing (reduced .tells p stands depth enough)))
+                  (reduced .tells p stands depth enough);
+            }
+
+        -- the extensions end it
+        pub treat-extended : copiesOf m₁ ≤ task .bound → {m₂ : List ℕ} {r₂ : Searched} → Rowed f m₁ m₂ task place (r .left) r₂ (extensionsAt f m₁ task place) → Treated f m m₂ task place left r₂
+        treat-extended unused {m₂} {r₂} extended =
+            record {
+              leaves = go (r₂ .ending) (extended .leaves);
+              within = omega (arith, extended .within, reduced .within);
+              tells = λ p stands depth enough.
+                  let some-left : p .tableau .extensions < task .bound = omega (arith, stands .extensions, back .copies) in
+                  let all : row (plays (tableAt f task) (task .bound)) depth (r .left) p (cond (ltb (p .tableau .extensions) (task .bound)) (extensionsAt f m task place) [])
+                  ≡ row (plays (tableAt f task) (task .bound)) depth (r .left) p (extensionsAt f m₁ task place) =
+                  rw (lt-ltb (p .tableau .extensions) (task .bound) some-left) (ap (row (plays (tableAt f task) (task .bound)) depth (r .left) p) same-extensions) in
+                  tells-by f m₂ task place r₂ p (r₂ .ending) (onwards p stands depth enough ∙ all)
+                  (extended .tells p (stands-again (treats .ready) back p stands) depth (omega (arith, treat-room)));
+            }
+          where
+            go : (e : Ending) → Leaves e f m₁ m₂ place r₂ → Leaves e f m m₂ place r₂
+            go Found l = record { good = l .good; few = l .few; earlier = λ i h. l .earlier i h ∙ back .later .steps i h }
+            go Nothing l = again-then back l
+            go Out l = tt
+
+            same-extensions : extensionsAt f m task place ≡ extensionsAt f m₁ task place
+            same-extensions =
+                sym (ap₂ (λ (l : Leaf) (n : ℕ). extensions (l .literal) n 0 (allClauses (tableAt f task))) (leaf-stays (treats .ready) some-open (back .later)) (back .copies))
+
+    -- the extensions, by a scan of the body
+    abbrev body : List ℕ
+    body = take (task .body) f
+
+    body-small : Words body
+    body-small = each-take (λ (w : ℕ). w < 2 ^ 32) (task .body) f (words-each f (treats .asked .small))
+
+    module _ {wanted : ℕ} (wants : Wanted f m place wanted) where
+      pub scan-begin : {scan : Scan} → scan ≡ begun → Standing body scan
+      scan-begin e = rw e (standing-begin body)
+
+      pub scan-row : {scan : Scan} → scan ≡ begun → (tries : ℕ) → Rowing f m m task place tries tries (extensionsAt f m task place) (extensionsFrom body wanted scan)
+      unfolding literalAtReference
+      scan-row {scan} e tries = rowing-by treats same (rowing-begin treats tries (extensionsAt f m task place))
+        where
+          same : extensionsAt f m task place ≡ extensionsFrom body wanted scan
+          same =
+              let l = leaf-literate in
+              sym (rw (e, wants, ← l .word)
+              (extensions-begin f (task .body) (treats .asked .fits) (treats .asked .readable) body-small {v = variablesOf (getD f (startAt m (leafOf m place / 256)) 0)} (wordsAt f m (leafOf m place)) (rw (l .word) (l .shaped)) (rw (l .word) (treats .asked .small _)) (rw (l .word) (l .owing)) (fresh (leafOf m place / 256)) (copiesOf m)))
+
+      module _ {m₁ : List ℕ} {tries left : ℕ} {all : List Step} (scan : Scan) (rowing : Rowing f m m₁ task place tries left all (extensionsFrom body wanted scan)) where
+        pub scan-end : entriesFrom wanted scan (drop (scan .at) body) ≡ [] → {r : Searched} → r ≡ without Nothing left → Rowed f m m₁ task place tries r all
+        scan-end e es = rowing-end treats (rowing-by treats (extensions-done body wanted scan e) rowing) es
+
+        module _ {entry : Scan} (next : NextEntry body wanted scan entry) where
+          pub scan-next : Rowing f m m₁ task place tries left all (extensionAt entry ∷ extensionsFrom body wanted (pastWord entry wanted))
+          scan-next = rowing-by treats (extensions-next next) rowing
+
+          inside : entry .at < task .body
+          inside = omega (arith, next .inside, length-take-le (task .body) f (treats .asked .fits))
+
+          pub scan-allows : copiesOf m ≤ task .bound → Allows f m₁ task place (Enter entry)
+          scan-allows unused = (
+            next-enters f (task .body) (treats .asked .fits) (treats .asked .readable) (leaf-literate .shaped) (treats .asked .small _) (rw wants at next),
+            sym (getD-take (task .body) f (entry .at) 0 inside) ∙ next .here ∙ wants ∙ ap otherSign (sym (leaf-word-stays (treats .ready) some-open (rowing .again .later))),
+            omega (arith, rowing .again .copies),
+          )
+
+          pub scan-small : (entry .at < 4294967295) × (entry .clauses ≤ entry .at) × (entry .literals ≤ entry .at)
+          scan-small = (omega (arith, inside, treats .asked .short), next .standing .clauses, next .standing .literals)
+
+          pub scan-less : {past : Scan} → past ≡ pastWord entry wanted → length (extensionsFrom body wanted past) < length (extensionsFrom body wanted scan)
+          scan-less {past} e =
+              let n : length (extensionsFrom body wanted scan) ≡ suc (length (extensionsFrom body wanted (pastWord entry wanted))) = ap length (extensions-next next) in
+              rw e (omega (arith, n))

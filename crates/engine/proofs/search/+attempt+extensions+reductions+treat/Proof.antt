@@ -1,0 +1,227 @@
+-- The search: a leaf is treated by trying its reductions and its extensions in turn, and a try that leads on by treating the next leaf. At
+-- each step fewer can be taken: the room falls. Every try that fails is taken back, so the loops go on from where they were.
+use borrow.Author.Needs.{needs}
+use borrow.Fn.Kinds.{In}
+use borrow.Fn.PlainCycle.{Measures, is, falls, and}
+use denote.Enum.Declared.{tagOf, declared}
+use lib.ListN.{length, take}
+use mathlib.Core.Logic.{_⊎_, inl, inr}
+use mathlib.Core.Path.{_≡_, refl, sym, subst, _∙_}
+use native.Mathlib.Omega.{arith}
+use Prim.Native.Nat.{ℕ, _+_, _*_, _<_}
+use Rattle.engine.specs.Scanning.{extensionsFrom, Standing, IsNext}
+use Rattle.engine.specs.Searching.{roomAt, reductionsAt, extensionsAt}
+use Rattle.engine.specs.declared.candidates.Scan.{Scan}
+use Rattle.engine.specs.declared.search.Ending.{Ending}
+use Rattle.engine.specs.declared.search.Ending.the-variants.{Found, Nothing, Out}
+use Rattle.engine.specs.declared.search.Move.the-variants.{Reduce, Enter}
+use Rattle.engine.specs.declared.unify.Meeting.{Meeting}
+use Rattle.engine.specs.declared.unify.Meeting.the-variants.{Made, Clash, Circle}
+use Rattle.engine.proofs.search.Ending.{enum as ending}
+use Rattle.engine.proofs.unify.Meeting.{enum as meeting}
+use Rattle.engine.proofs.Entries.{next-onward}
+use Rattle.engine.proofs.Rows.{room-again, treats-again, Rowing, rowing-by, rowing-out, rowing-ended, rowing-on}
+use Rattle.engine.proofs.Attempts.{attempt-restores, attempt-failed, attempt-treats, attempt-falls, attempt-ended, attempt-good-below, attempt-restores-below, attempt-none}
+use Rattle.engine.proofs.Climbs.{Climbing, climbs, climb-begin, climb-row, climb-end, climb-small, climb-few, climb-falls, climb-inside, climb-on, climb-past, climb-at, climb-against}
+use Rattle.engine.proofs.Treating.{treat-closed, treat-small, treat-inside, treat-wanted, treat-ended, treat-again, treat-room, treat-wanted-again, treat-used, treat-extended, scan-begin, scan-row, scan-end, scan-next, scan-allows, scan-small, scan-less}
+use Rattle.engine.proofs.search.attempt.Reads as attempt
+use Rattle.engine.proofs.search.attempt.Kinds as attempt-kinds
+use Rattle.engine.proofs.search.+attempt+extensions+reductions+treat.Lts-attempt as attempt-lts
+use Rattle.engine.proofs.search.extensions.Reads as extensions
+use Rattle.engine.proofs.search.extensions.Kinds as extensions-kinds
+use Rattle.engine.proofs.search.+attempt+extensions+reductions+treat.Lts-extensions as extensions-lts
+use Rattle.engine.proofs.search.reductions.Reads as reductions
+use Rattle.engine.proofs.search.reductions.Kinds as reductions-kinds
+use Rattle.engine.proofs.search.+attempt+extensions+reductions+treat.Lts-reductions as reductions-lts
+use Rattle.engine.proofs.search.treat.Reads as treat
+use Rattle.engine.proofs.search.treat.Kinds as treat-kinds
+use Rattle.engine.proofs.search.+attempt+extensions+reductions+treat.Lts-treat as treat-lts
+use Rattle.engine.proofs.candidates.beginning.Reads as beginning
+use Rattle.engine.proofs.candidates.next.Reads as next
+use Rattle.engine.proofs.candidates.other_sign.Reads as other-sign
+use Rattle.engine.proofs.candidates.past.Reads as past
+use Rattle.engine.proofs.memory.word_at.Reads as word-at
+use Rattle.engine.proofs.search.restore.Reads as restore
+use Rattle.engine.proofs.search.take.Reads as taking
+use Rattle.engine.proofs.search.without.Reads as without
+use Rattle.engine.proofs.tableau.literal_of.Reads as literal-of
+use Rattle.engine.proofs.tableau.parent_of.Reads as parent-of
+use Rattle.engine.proofs.search.+attempt+extensions+reductions+treat.{statement}
+use Rattle.engine.proofs.search.+attempt+extensions+reductions+treat.Tie.{close}
+
+abbrev μ-attempt : Measures 2 attempt-kinds.ps ℕ
+μ-attempt κs a = 4 * roomAt (a .0 .now) (a .1 .0 .now) (a .1 .1 .0) (a .1 .1 .1 .0) + 1
+
+abbrev μ-extensions : Measures 2 extensions-kinds.ps ℕ
+μ-extensions κs a = 4 * roomAt (a .0 .now) (a .1 .0 .now) (a .1 .1 .0) (a .1 .1 .1 .0) + 2
+
+abbrev μ-reductions : Measures 2 reductions-kinds.ps ℕ
+μ-reductions κs a = 4 * roomAt (a .0 .now) (a .1 .0 .now) (a .1 .1 .0) (a .1 .1 .1 .0) + 2
+
+abbrev μ-treat : Measures 2 treat-kinds.ps ℕ
+μ-treat κs a = 4 * roomAt (a .0 .now) (a .1 .0 .now) (a .1 .1 .0) (a .1 .1 .1 .0) + 3
+
+abbrev attempt-at : ℕ → In 2 attempt-kinds.ps
+attempt-at t = and 2 attempt-kinds.ps (is 2 attempt-kinds.ps μ-attempt t) attempt.Pre
+
+abbrev attempt-below : ℕ → In 2 attempt-kinds.ps
+attempt-below t = and 2 attempt-kinds.ps (falls 2 attempt-kinds.ps _<_ μ-attempt t) attempt.Pre
+
+abbrev extensions-at : ℕ → In 2 extensions-kinds.ps
+extensions-at t = and 2 extensions-kinds.ps (is 2 extensions-kinds.ps μ-extensions t) extensions.Pre
+
+abbrev extensions-below : ℕ → In 2 extensions-kinds.ps
+extensions-below t = and 2 extensions-kinds.ps (falls 2 extensions-kinds.ps _<_ μ-extensions t) extensions.Pre
+
+abbrev reductions-at : ℕ → In 2 reductions-kinds.ps
+reductions-at t = and 2 reductions-kinds.ps (is 2 reductions-kinds.ps μ-reductions t) reductions.Pre
+
+abbrev reductions-below : ℕ → In 2 reductions-kinds.ps
+reductions-below t = and 2 reductions-kinds.ps (falls 2 reductions-kinds.ps _<_ μ-reductions t) reductions.Pre
+
+abbrev treat-at : ℕ → In 2 treat-kinds.ps
+treat-at t = and 2 treat-kinds.ps (is 2 treat-kinds.ps μ-treat t) treat.Pre
+
+abbrev treat-below : ℕ → In 2 treat-kinds.ps
+treat-below t = and 2 treat-kinds.ps (falls 2 treat-kinds.ps _<_ μ-treat t) treat.Pre
+
+abbrev told-attempt : ℕ → attempt-lts.Claims
+told-attempt t = (taking.Asked, taking.Learnt, restore.Asked, restore.Learnt, without.Asked, without.Learnt, treat-below t, treat.Post)
+
+abbrev told-extensions : ℕ → extensions-lts.Claims
+told-extensions t =
+    (beginning.Asked, beginning.Learnt, next.Asked, next.Learnt, without.Asked, without.Learnt, attempt-below t, attempt.Post, past.Asked, past.Learnt)
+
+abbrev told-reductions : ℕ → reductions-lts.Claims
+told-reductions t =
+    (parent-of.Asked, parent-of.Learnt, literal-of.Asked, literal-of.Learnt, word-at.Asked, word-at.Learnt, without.Asked, without.Learnt, attempt-below t, attempt.Post)
+
+abbrev told-treat : ℕ → treat-lts.Claims
+told-treat t =
+    (literal-of.Asked, literal-of.Learnt, word-at.Asked, word-at.Learnt, other-sign.Asked, other-sign.Learnt, reductions-below t, reductions.Post, extensions-below t, extensions.Post)
+
+abbrev Inv-extensions : extensions-lts.InvT-loop
+Inv-extensions file work₀ task place wanted tries body scan₀ left₀ work scan left =
+    Standing (take (task .body) file) scan
+    × Rowing file work₀ work task place tries left (extensionsAt file work₀ task place) (extensionsFrom (take (task .body) file) wanted scan)
+
+abbrev μ-scan : extensions-lts.MeasureT-loop
+μ-scan file work₀ task place wanted tries body scan₀ left₀ work scan left = length (extensionsFrom (take (task .body) file) wanted scan)
+
+abbrev Inv-reductions : reductions-lts.InvT-loop
+Inv-reductions file work₀ task place wanted tries ancestor₀ height₀ left₀ work ancestor height left =
+    Climbing file work₀ place ancestor height
+    × Rowing file work₀ work task place tries left (reductionsAt file work₀ place) (climbs file work₀ place ancestor height)
+
+abbrev μ-climb : reductions-lts.MeasureT-loop
+μ-climb file work₀ task place wanted tries ancestor₀ height₀ left₀ work ancestor height left = ancestor
+
+-- what an arm knows of the case that it is not
+not-met : (q : Meeting) → (tagOf (declared meeting) q ≡ 1) ⊎ (tagOf (declared meeting) q ≡ 2) → q ≡ Made → ⊥
+not-met Made (inl e) z = omega (arith, e)
+not-met Made (inr e) z = omega (arith, e)
+not-met Clash e z = let y : _≡_ {A = ℕ} 0 1 = cc in omega arith
+not-met Circle e z = let y : _≡_ {A = ℕ} 0 1 = cc in omega arith
+
+settled : (q : Ending) → (tagOf (declared ending) q ≡ 0) ⊎ (tagOf (declared ending) q ≡ 2) → q ≡ Nothing → ⊥
+settled Found e z = let y : _≡_ {A = ℕ} 0 1 = cc in omega arith
+settled Nothing (inl e) z = omega (arith, e)
+settled Nothing (inr e) z = omega (arith, e)
+settled Out e z = let y : _≡_ {A = ℕ} 0 1 = cc in omega arith
+
+pub +attempt+extensions+reductions+treat-spec : {M : Type 1} → statement M
++attempt+extensions+reductions+treat-spec =
+    close
+    μ-attempt
+    μ-extensions
+    μ-reductions
+    μ-treat
+    (λ t. attempt-lts.spec
+    (told-attempt t)
+    (attempt-at t)
+    attempt.Post
+    (λ c. omega (arith, c .before .before .before .pre .1 .0 .ready .good .size))
+    (λ c. omega (arith, c .before .before .before .before .pre .1 .0 .ready .good .size))
+    (λ c κs. c .before .before .before .before .before .pre .1)
+    (λ c. search needs)
+    (λ c κs. attempt-restores (c .before .before .before .before .before .before .before .before .before .before .pre .1 .0) (c .before .before .before .before .before .before .before .before .before .before .args .candidate) (c .before .before .before .before .take .ensures) refl)
+    (λ c κs. search needs)
+    (λ c. c .before .before .before .restore .kept .0 ∙ c .before .before .before .before .before .before .before .before .take .kept .1 .0)
+    (λ c. attempt-failed (c .before .before .before .before .before .before .before .before .before .before .before .before .before .before .pre .1 .0) (c .before .before .before .before .before .before .before .before .before .before .before .before .before .before .args .candidate) (c .before .before .before .before .before .before .before .before .take .ensures) (not-met (c .before .before .before .before .before .before .before .before .take .result .meeting) (c .before .before .before .before .before .match .keys2)) refl refl (c .before .before .before .before .before .before .before .before .before .before .before .before .before .before .args .left) (c .before .before .before .restore .ensures (c .before .before .before .before .before .before .before .before .before .before .before .before .before .before .args .file .now) (c .before .before .before .before .before .before .before .before .take .ensures .good)) (c .without .ensures))
+    (λ c κs. (omega (arith, attempt-falls (c .before .before .before .before .before .before .before .before .before .before .before .pre .1 .0) (c .before .before .before .before .before .before .before .before .before .before .before .args .candidate) (c .before .before .before .before .before .take .ensures) (c .before .enum-told .given .1), c .before .before .before .before .before .before .before .before .before .before .before .pre .0), attempt-treats (c .before .before .before .before .before .before .before .before .before .before .before .pre .1 .0) (c .before .before .before .before .before .before .before .before .before .before .before .args .candidate) (c .before .before .before .before .before .take .ensures) (c .before .enum-told .given .1)))
+    (λ c. search needs)
+    (λ c. c .before .before .before .treat .kept .1 .0 ∙ c .before .before .before .before .before .before .before .before .before .take .kept .1 .0)
+    (λ c. attempt-ended (c .before .before .before .before .before .before .before .before .before .before .before .before .before .before .before .pre .1 .0) (c .before .before .before .before .before .before .before .before .before .before .before .before .before .before .before .args .candidate) (c .before .before .before .before .before .before .before .before .before .take .ensures) (c .before .before .before .before .before .enum-told .given .1) (c .before .before .before .treat .ensures) (settled (c .before .before .before .treat .result .ending) (c .match2 .keys2)))
+    (λ c κs. attempt-restores-below (c .before .before .before .before .before .before .before .before .before .before .before .before .before .before .before .before .before .pre .1 .0) (c .before .before .before .before .before .before .before .before .before .before .before .before .before .before .before .before .before .args .candidate) (c .before .before .before .before .before .before .before .before .before .before .before .take .ensures) (c .before .before .before .before .before .before .before .enum-told .given .1) (c .before .before .before .before .before .treat .ensures) (c .before .enum-told2 .given .1) refl)
+    (λ c. c .before .before .restore2 .kept .0 ∙ c .before .before .before .before .before .before .before .before .treat .kept .1 .0 ∙ c .before .before .before .before .before .before .before .before .before .before .before .before .before .before .take .kept .1 .0)
+    (λ c. attempt-none (c .before .before .before .before .before .before .before .before .before .before .before .before .before .before .before .before .before .before .before .before .pre .1 .0) (c .before .before .before .before .before .before .before .before .before .before .before .before .before .before .before .before .before .before .before .before .args .candidate) (c .before .before .before .before .before .before .before .before .before .before .before .before .before .before .take .ensures) (c .before .before .before .before .before .before .before .before .before .before .enum-told .given .1) (c .before .before .before .before .before .before .before .before .treat .ensures) (c .before .before .before .before .enum-told2 .given .1) refl refl (c .before .before .restore2 .ensures (c .before .before .before .before .before .before .before .before .before .before .before .before .before .before .before .before .before .before .before .before .args .file .now) (attempt-good-below (c .before .before .before .before .before .before .before .before .before .before .before .before .before .before .before .before .before .before .before .before .pre .1 .0) (c .before .before .before .before .before .before .before .before .before .before .before .before .before .before .before .before .before .before .before .before .args .candidate) (c .before .before .before .before .before .before .before .before .before .before .before .before .before .before .take .ensures) (c .before .before .before .before .before .before .before .before .before .before .enum-told .given .1) (c .before .before .before .before .before .before .before .before .treat .ensures) (c .before .before .before .before .enum-told2 .given .1)))))
+    (λ t. extensions-lts.spec
+    (told-extensions t)
+    (extensions-at t)
+    extensions.Post
+    Inv-extensions
+    μ-scan
+    (λ c κs. search needs)
+    (λ c. (scan-begin (c .before .before .before .pre .1 .0) (c .before .before .before .pre .1 .1) (c .before .before .before .pre .1 .2) (c .beginning .ensures), scan-row (c .before .before .before .pre .1 .0) (c .before .before .before .pre .1 .1) (c .before .before .before .pre .1 .2) (c .beginning .ensures) (c .before .before .before .args .tries)))
+    (λ c κs. (c .before .before .before .before .pre .1 .0 .asked .fits, c .loop .inv .0))
+    (λ c. search needs)
+    (λ c. search needs)
+    (λ c κs. search needs)
+    (λ c. c .before .before .before .before .loop .inv .1 .again .good .size ∙ sym (c .before .before .before .before .before .before .before .before .pre .1 .0 .ready .good .size))
+    (λ c. scan-end (c .before .before .before .before .before .before .before .before .pre .1 .0) (c .before .before .before .before .before .before .before .before .pre .1 .1) (c .before .before .before .before .before .before .before .before .pre .1 .2) (c .before .before .before .before .loop .scan) (c .before .before .before .before .loop .inv .1) (subst (IsNext (take (c .before .before .before .before .before .before .before .before .args .task .body) (c .before .before .before .before .before .before .before .before .args .file .now)) (c .before .before .before .before .before .before .before .before .args .wanted) (c .before .before .before .before .loop .scan)) (c .before .enum-told .given .1) (c .before .before .before .next .ensures)) (c .without .ensures))
+    (λ c κs. search needs)
+    (λ c. c .before .before .before .before .before .before .loop .inv .1 .again .good .size ∙ sym (c .before .before .before .before .before .before .before .before .before .before .pre .1 .0 .ready .good .size))
+    (λ c. rowing-out (c .before .before .before .before .before .before .before .before .before .before .pre .1 .0) (scan-next (c .before .before .before .before .before .before .before .before .before .before .pre .1 .0) (c .before .before .before .before .before .before .before .before .before .before .pre .1 .1) (c .before .before .before .before .before .before .before .before .before .before .pre .1 .2) (c .before .before .before .before .before .before .loop .scan) (c .before .before .before .before .before .before .loop .inv .1) (subst (IsNext (take (c .before .before .before .before .before .before .before .before .before .before .args .task .body) (c .before .before .before .before .before .before .before .before .before .before .args .file .now)) (c .before .before .before .before .before .before .before .before .before .before .args .wanted) (c .before .before .before .before .before .before .loop .scan)) (c .before .before .before .candidate .given .1) (c .before .before .before .before .before .next .ensures))) (c .before .if1 .taken) (c .without2 .ensures))
+    (λ c. omega arith)
+    (λ c κs. (omega (arith, room-again (c .before .before .before .before .before .before .before .before .before .before .args .task) (c .before .before .before .before .before .before .before .before .before .before .pre .1 .0 .ready) (c .before .before .before .before .before .before .loop .inv .1 .again), c .before .before .before .before .before .before .before .before .before .before .pre .0), (treats-again (c .before .before .before .before .before .before .before .before .before .before .pre .1 .0) (c .before .before .before .before .before .before .loop .inv .1 .again), c .before .before .before .before .before .before .before .before .before .before .pre .1 .1, scan-allows (c .before .before .before .before .before .before .before .before .before .before .pre .1 .0) (c .before .before .before .before .before .before .before .before .before .before .pre .1 .1) (c .before .before .before .before .before .before .before .before .before .before .pre .1 .2) (c .before .before .before .before .before .before .loop .scan) (c .before .before .before .before .before .before .loop .inv .1) (subst (IsNext (take (c .before .before .before .before .before .before .before .before .before .before .args .task .body) (c .before .before .before .before .before .before .before .before .before .before .args .file .now)) (c .before .before .before .before .before .before .before .before .before .before .args .wanted) (c .before .before .before .before .before .before .loop .scan)) (c .before .before .before .candidate .given .1) (c .before .before .before .before .before .next .ensures)) (c .before .before .before .before .before .before .before .before .before .before .pre .1 .3))))
+    (λ c. search needs)
+    (λ c. c .before .before .before .attempt .kept .1 .0 ∙ c .before .before .before .before .before .before .before .before .before .before .loop .inv .1 .again .good .size ∙ sym (c .before .before .before .before .before .before .before .before .before .before .before .before .before .before .pre .1 .0 .ready .good .size))
+    (λ c. rowing-ended (c .before .before .before .before .before .before .before .before .before .before .before .before .before .before .pre .1 .0) (Enter (c .before .before .before .before .before .before .before .candidate .given .0 .0)) (scan-next (c .before .before .before .before .before .before .before .before .before .before .before .before .before .before .pre .1 .0) (c .before .before .before .before .before .before .before .before .before .before .before .before .before .before .pre .1 .1) (c .before .before .before .before .before .before .before .before .before .before .before .before .before .before .pre .1 .2) (c .before .before .before .before .before .before .before .before .before .before .loop .scan) (c .before .before .before .before .before .before .before .before .before .before .loop .inv .1) (subst (IsNext (take (c .before .before .before .before .before .before .before .before .before .before .before .before .before .before .args .task .body) (c .before .before .before .before .before .before .before .before .before .before .before .before .before .before .args .file .now)) (c .before .before .before .before .before .before .before .before .before .before .before .before .before .before .args .wanted) (c .before .before .before .before .before .before .before .before .before .before .loop .scan)) (c .before .before .before .before .before .before .before .candidate .given .1) (c .before .before .before .before .before .before .before .before .before .next .ensures))) (c .before .before .before .before .before .if1 .left) (c .before .before .before .attempt .ensures) (settled (c .before .before .before .attempt .result .ending) (c .match2 .keys2)))
+    (λ c κs. scan-small (c .before .before .before .before .before .before .before .before .before .before .before .before .before .before .before .pre .1 .0) (c .before .before .before .before .before .before .before .before .before .before .before .before .before .before .before .pre .1 .1) (c .before .before .before .before .before .before .before .before .before .before .before .before .before .before .before .pre .1 .2) (c .before .before .before .before .before .before .before .before .before .before .before .loop .scan) (c .before .before .before .before .before .before .before .before .before .before .before .loop .inv .1) (subst (IsNext (take (c .before .before .before .before .before .before .before .before .before .before .before .before .before .before .before .args .task .body) (c .before .before .before .before .before .before .before .before .before .before .before .before .before .before .before .args .file .now)) (c .before .before .before .before .before .before .before .before .before .before .before .before .before .before .before .args .wanted) (c .before .before .before .before .before .before .before .before .before .before .before .loop .scan)) (c .before .before .before .before .before .before .before .before .candidate .given .1) (c .before .before .before .before .before .before .before .before .before .before .next .ensures)))
+    (λ c. scan-less (c .before .before .before .before .before .before .before .before .before .before .before .before .before .before .before .before .pre .1 .0) (c .before .before .before .before .before .before .before .before .before .before .before .before .before .before .before .before .pre .1 .1) (c .before .before .before .before .before .before .before .before .before .before .before .before .before .before .before .before .pre .1 .2) (c .before .before .before .before .before .before .before .before .before .before .before .before .loop .scan) (c .before .before .before .before .before .before .before .before .before .before .before .before .loop .inv .1) (subst (IsNext (take (c .before .before .before .before .before .before .before .before .before .before .before .before .before .before .before .before .args .task .body) (c .before .before .before .before .before .before .before .before .before .before .before .before .before .before .before .before .args .file .now)) (c .before .before .before .before .before .before .before .before .before .before .before .before .before .before .before .before .args .wanted) (c .before .before .before .before .before .before .before .before .before .before .before .before .loop .scan)) (c .before .before .before .before .before .before .before .before .before .candidate .given .1) (c .before .before .before .before .before .before .before .before .before .before .before .next .ensures)) (c .past .ensures))
+    (λ c. (subst (Standing (take (c .before .before .before .before .before .before .before .before .before .before .before .before .before .before .before .before .args .task .body) (c .before .before .before .before .before .before .before .before .before .before .before .before .before .before .before .before .args .file .now))) (sym (c .past .ensures)) (next-onward (subst (IsNext (take (c .before .before .before .before .before .before .before .before .before .before .before .before .before .before .before .before .args .task .body) (c .before .before .before .before .before .before .before .before .before .before .before .before .before .before .before .before .args .file .now)) (c .before .before .before .before .before .before .before .before .before .before .before .before .before .before .before .before .args .wanted) (c .before .before .before .before .before .before .before .before .before .before .before .before .loop .scan)) (c .before .before .before .before .before .before .before .before .before .candidate .given .1) (c .before .before .before .before .before .before .before .before .before .before .before .next .ensures))), subst (λ (s : Scan). Rowing (c .before .before .before .before .before .before .before .before .before .before .before .before .before .before .before .before .args .file .now) (c .before .before .before .before .before .before .before .before .before .before .before .before .before .before .before .before .args .work .now) (c .before .before .before .before .before .attempt .last .1 .0) (c .before .before .before .before .before .before .before .before .before .before .before .before .before .before .before .before .args .task) (c .before .before .before .before .before .before .before .before .before .before .before .before .before .before .before .before .args .place) (c .before .before .before .before .before .before .before .before .before .before .before .before .before .before .before .before .args .tries) (c .before .before .before .before .before .attempt .result .left) (extensionsAt (c .before .before .before .before .before .before .before .before .before .before .before .before .before .before .before .before .args .file .now) (c .before .before .before .before .before .before .before .before .before .before .before .before .before .before .before .before .args .work .now) (c .before .before .before .before .before .before .before .before .before .before .before .before .before .before .before .before .args .task) (c .before .before .before .before .before .before .before .before .before .before .before .before .before .before .before .before .args .place)) (extensionsFrom (take (c .before .before .before .before .before .before .before .before .before .before .before .before .before .before .before .before .args .task .body) (c .before .before .before .before .before .before .before .before .before .before .before .before .before .before .before .before .args .file .now)) (c .before .before .before .before .before .before .before .before .before .before .before .before .before .before .before .before .args .wanted) s)) (sym (c .past .ensures)) (rowing-on (c .before .before .before .before .before .before .before .before .before .before .before .before .before .before .before .before .pre .1 .0) (Enter (c .before .before .before .before .before .before .before .before .before .candidate .given .0 .0)) (scan-next (c .before .before .before .before .before .before .before .before .before .before .before .before .before .before .before .before .pre .1 .0) (c .before .before .before .before .before .before .before .before .before .before .before .before .before .before .before .before .pre .1 .1) (c .before .before .before .before .before .before .before .before .before .before .before .before .before .before .before .before .pre .1 .2) (c .before .before .before .before .before .before .before .before .before .before .before .before .loop .scan) (c .before .before .before .before .before .before .before .before .before .before .before .before .loop .inv .1) (subst (IsNext (take (c .before .before .before .before .before .before .before .before .before .before .before .before .before .before .before .before .args .task .body) (c .before .before .before .before .before .before .before .before .before .before .before .before .before .before .before .before .args .file .now)) (c .before .before .before .before .before .before .before .before .before .before .before .before .before .before .before .before .args .wanted) (c .before .before .before .before .before .before .before .before .before .before .before .before .loop .scan)) (c .before .before .before .before .before .before .before .before .before .candidate .given .1) (c .before .before .before .before .before .before .before .before .before .before .before .next .ensures))) (c .before .before .before .before .before .before .before .if1 .left) (c .before .before .before .before .before .attempt .ensures) (c .before .enum-told2 .given .1)))))
+    (λ t. reductions-lts.spec
+    (told-reductions t)
+    (reductions-at t)
+    reductions.Post
+    Inv-reductions
+    μ-climb
+    (λ c κs. treat-small (c .before .before .before .pre .1 .0) (c .before .before .before .pre .1 .1))
+    (λ c. (climb-begin (c .before .before .before .before .pre .1 .0) (c .before .before .before .before .pre .1 .1) (c .parent-of .ensures), climb-row (c .before .before .before .before .pre .1 .0) (c .before .before .before .before .pre .1 .1) (c .parent-of .ensures) (c .before .before .before .before .args .tries)))
+    (λ c κs. climb-small (c .before .before .before .before .before .before .before .pre .1 .0) (c .before .before .before .before .before .before .before .pre .1 .1) (c .before .before .loop .inv .1 .again) (c .before .before .loop .inv .0) (c .before .loop-test .taken))
+    (λ c κs. climb-small (c .before .before .before .before .before .before .before .before .before .pre .1 .0) (c .before .before .before .before .before .before .before .before .before .pre .1 .1) (c .before .before .before .before .loop .inv .1 .again) (c .before .before .before .before .loop .inv .0) (c .before .before .before .loop-test .taken))
+    (λ c. omega (arith, climb-few (c .before .before .before .before .before .before .before .before .before .before .pre .1 .0) (c .before .before .before .before .before .before .before .before .before .before .pre .1 .1) (c .before .before .before .before .before .loop .inv .1 .again) (c .before .before .before .before .before .loop .inv .0) (c .before .before .before .before .loop-test .taken)))
+    (λ c κs. climb-inside (c .before .before .before .before .before .before .before .before .before .before .before .pre .1 .0) (c .before .before .before .before .before .before .before .before .before .before .before .pre .1 .1) (c .before .before .before .before .before .before .loop .inv .1 .again) (c .before .before .before .before .before .before .loop .inv .0) (c .before .before .before .before .before .loop-test .taken) (c .before .before .before .literal-of .ensures))
+    (λ c. climb-falls (c .before .before .before .before .before .before .before .before .before .before .before .before .before .pre .1 .0) (c .before .before .before .before .before .before .before .before .before .before .before .before .before .pre .1 .1) (c .before .before .before .before .before .before .before .before .loop .inv .1 .again) (c .before .before .before .before .before .before .before .before .loop .inv .0) (c .before .before .before .before .before .before .before .loop-test .taken) (c .before .before .before .parent-of2 .ensures))
+    (λ c. (climb-on (c .before .before .before .before .before .before .before .before .before .before .before .before .before .pre .1 .0) (c .before .before .before .before .before .before .before .before .before .before .before .before .before .pre .1 .1) (c .before .before .before .before .before .before .before .before .loop .inv .1 .again) (c .before .before .before .before .before .before .before .before .loop .inv .0) (c .before .before .before .before .before .before .before .loop-test .taken) (c .before .before .before .before .before .literal-of .ensures) (c .before .before .before .parent-of2 .ensures), rowing-by (c .before .before .before .before .before .before .before .before .before .before .before .before .before .pre .1 .0) (climb-past (c .before .before .before .before .before .before .before .before .before .before .before .before .before .pre .1 .0) (c .before .before .before .before .before .before .before .before .before .before .before .before .before .pre .1 .1) (c .before .before .before .before .before .before .before .before .loop .inv .1 .again) (c .before .before .before .before .before .before .before .before .loop .inv .0) (c .before .before .before .before .before .before .before .loop-test .taken) (c .before .before .before .before .before .literal-of .ensures) (c .before .before .before .parent-of2 .ensures) (c .before .word-at .ensures) (c .before .before .before .before .before .before .before .before .before .before .before .before .before .pre .1 .2) (c .if1 .taken)) (c .before .before .before .before .before .before .before .before .loop .inv .1)))
+    (λ c κs. search needs)
+    (λ c. c .before .before .before .before .before .before .before .before .before .before .loop .inv .1 .again .good .size ∙ sym (c .before .before .before .before .before .before .before .before .before .before .before .before .before .before .before .pre .1 .0 .ready .good .size))
+    (λ c. rowing-out (c .before .before .before .before .before .before .before .before .before .before .before .before .before .before .before .pre .1 .0) (rowing-by (c .before .before .before .before .before .before .before .before .before .before .before .before .before .before .before .pre .1 .0) (climb-at (c .before .before .before .before .before .before .before .before .before .before .before .before .before .before .before .pre .1 .0) (c .before .before .before .before .before .before .before .before .before .before .before .before .before .before .before .pre .1 .1) (c .before .before .before .before .before .before .before .before .before .before .loop .inv .1 .again) (c .before .before .before .before .before .before .before .before .before .before .loop .inv .0) (c .before .before .before .before .before .before .before .before .before .loop-test .taken) (c .before .before .before .before .before .before .before .literal-of .ensures) (c .before .before .before .before .before .parent-of2 .ensures) (c .before .before .before .word-at .ensures) (c .before .before .before .before .before .before .before .before .before .before .before .before .before .before .before .pre .1 .2) (c .before .before .if1 .left)) (c .before .before .before .before .before .before .before .before .before .before .loop .inv .1)) (c .before .if2 .taken) (c .without .ensures))
+    (λ c. omega arith)
+    (λ c κs. (omega (arith, room-again (c .before .before .before .before .before .before .before .before .before .before .before .before .before .before .before .args .task) (c .before .before .before .before .before .before .before .before .before .before .before .before .before .before .before .pre .1 .0 .ready) (c .before .before .before .before .before .before .before .before .before .before .loop .inv .1 .again), c .before .before .before .before .before .before .before .before .before .before .before .before .before .before .before .pre .0), (treats-again (c .before .before .before .before .before .before .before .before .before .before .before .before .before .before .before .pre .1 .0) (c .before .before .before .before .before .before .before .before .before .before .loop .inv .1 .again), c .before .before .before .before .before .before .before .before .before .before .before .before .before .before .before .pre .1 .1, climb-against (c .before .before .before .before .before .before .before .before .before .before .before .before .before .before .before .pre .1 .0) (c .before .before .before .before .before .before .before .before .before .before .before .before .before .before .before .pre .1 .1) (c .before .before .before .before .before .before .before .before .before .before .loop .inv .1 .again) (c .before .before .before .before .before .before .before .before .before .before .loop .inv .0) (c .before .before .before .before .before .before .before .before .before .loop-test .taken) (c .before .before .before .before .before .before .before .literal-of .ensures) (c .before .before .before .before .before .parent-of2 .ensures) (c .before .before .before .word-at .ensures) (c .before .before .before .before .before .before .before .before .before .before .before .before .before .before .before .pre .1 .2) (c .before .before .if1 .left))))
+    (λ c. search needs)
+    (λ c. c .before .before .before .attempt .kept .1 .0 ∙ c .before .before .before .before .before .before .before .before .before .before .before .before .before .before .loop .inv .1 .again .good .size ∙ sym (c .before .before .before .before .before .before .before .before .before .before .before .before .before .before .before .before .before .before .before .pre .1 .0 .ready .good .size))
+    (λ c. rowing-ended (c .before .before .before .before .before .before .before .before .before .before .before .before .before .before .before .before .before .before .before .pre .1 .0) (Reduce (c .before .before .before .before .before .before .before .before .before .before .before .literal-of .result) (c .before .before .before .before .before .before .before .before .before .before .before .before .before .before .loop .height + 1)) (rowing-by (c .before .before .before .before .before .before .before .before .before .before .before .before .before .before .before .before .before .before .before .pre .1 .0) (climb-at (c .before .before .before .before .before .before .before .before .before .before .before .before .before .before .before .before .before .before .before .pre .1 .0) (c .before .before .before .before .before .before .before .before .before .before .before .before .before .before .before .before .before .before .before .pre .1 .1) (c .before .before .before .before .before .before .before .before .before .before .before .before .before .before .loop .inv .1 .again) (c .before .before .before .before .before .before .before .before .before .before .before .before .before .before .loop .inv .0) (c .before .before .before .before .before .before .before .before .before .before .before .before .before .loop-test .taken) (c .before .before .before .before .before .before .before .before .before .before .before .literal-of .ensures) (c .before .before .before .before .before .before .before .before .before .parent-of2 .ensures) (c .before .before .before .before .before .before .before .word-at .ensures) (c .before .before .before .before .before .before .before .before .before .before .before .before .before .before .before .before .before .before .before .pre .1 .2) (c .before .before .before .before .before .before .if1 .left)) (c .before .before .before .before .before .before .before .before .before .before .before .before .before .before .loop .inv .1)) (c .before .before .before .before .before .if2 .left) (c .before .before .before .attempt .ensures) (settled (c .before .before .before .attempt .result .ending) (c .match .keys2)))
+    (λ c. climb-falls (c .before .before .before .before .before .before .before .before .before .before .before .before .before .before .before .before .before .before .before .before .pre .1 .0) (c .before .before .before .before .before .before .before .before .before .before .before .before .before .before .before .before .before .before .before .before .pre .1 .1) (c .before .before .before .before .before .before .before .before .before .before .before .before .before .before .before .loop .inv .1 .again) (c .before .before .before .before .before .before .before .before .before .before .before .before .before .before .before .loop .inv .0) (c .before .before .before .before .before .before .before .before .before .before .before .before .before .before .loop-test .taken) (c .before .before .before .before .before .before .before .before .before .before .parent-of2 .ensures))
+    (λ c. (climb-on (c .before .before .before .before .before .before .before .before .before .before .before .before .before .before .before .before .before .before .before .before .pre .1 .0) (c .before .before .before .before .before .before .before .before .before .before .before .before .before .before .before .before .before .before .before .before .pre .1 .1) (c .before .before .before .before .before .before .before .before .before .before .before .before .before .before .before .loop .inv .1 .again) (c .before .before .before .before .before .before .before .before .before .before .before .before .before .before .before .loop .inv .0) (c .before .before .before .before .before .before .before .before .before .before .before .before .before .before .loop-test .taken) (c .before .before .before .before .before .before .before .before .before .before .before .before .literal-of .ensures) (c .before .before .before .before .before .before .before .before .before .before .parent-of2 .ensures), rowing-on (c .before .before .before .before .before .before .before .before .before .before .before .before .before .before .before .before .before .before .before .before .pre .1 .0) (Reduce (c .before .before .before .before .before .before .before .before .before .before .before .before .literal-of .result) (c .before .before .before .before .before .before .before .before .before .before .before .before .before .before .before .loop .height + 1)) (rowing-by (c .before .before .before .before .before .before .before .before .before .before .before .before .before .before .before .before .before .before .before .before .pre .1 .0) (climb-at (c .before .before .before .before .before .before .before .before .before .before .before .before .before .before .before .before .before .before .before .before .pre .1 .0) (c .before .before .before .before .before .before .before .before .before .before .before .before .before .before .before .before .before .before .before .before .pre .1 .1) (c .before .before .before .before .before .before .before .before .before .before .before .before .before .before .before .loop .inv .1 .again) (c .before .before .before .before .before .before .before .before .before .before .before .before .before .before .before .loop .inv .0) (c .before .before .before .before .before .before .before .before .before .before .before .before .before .before .loop-test .taken) (c .before .before .before .before .before .before .before .before .before .before .before .before .literal-of .ensures) (c .before .before .before .before .before .before .before .before .before .before .parent-of2 .ensures) (c .before .before .before .before .before .before .before .before .word-at .ensures) (c .before .before .before .before .before .before .before .before .before .before .before .before .before .before .before .before .before .before .before .before .pre .1 .2) (c .before .before .before .before .before .before .before .if1 .left)) (c .before .before .before .before .before .before .before .before .before .before .before .before .before .before .before .loop .inv .1)) (c .before .before .before .before .before .before .if2 .left) (c .before .before .before .before .attempt .ensures) (c .enum-told .given .1)))
+    (λ c κs. search needs)
+    (λ c. c .before .before .loop .inv .1 .again .good .size ∙ sym (c .before .before .before .before .before .before .before .pre .1 .0 .ready .good .size))
+    (λ c. climb-end (c .before .before .before .before .before .before .before .pre .1 .0) (c .before .before .before .before .before .before .before .pre .1 .1) (c .before .before .loop .inv .0) (c .before .before .loop .inv .1) (c .before .loop-test .left) (c .without2 .ensures)))
+    (λ t. treat-lts.spec
+    (told-treat t)
+    (treat-at t)
+    treat.Post
+    (λ c. treat-closed (c .before .before .before .pre .1) (c .if1 .taken) (c .before .before .before .args .left))
+    (λ c κs. treat-small (c .before .before .before .before .pre .1) (omega (arith, c .before .if1 .left)))
+    (λ c κs. treat-inside (c .before .before .before .before .before .pre .1) (omega (arith, c .before .before .if1 .left)) (c .literal-of .ensures))
+    (λ c κs. search needs)
+    (λ c κs. (omega (arith, c .before .before .before .before .before .before .before .before .pre .0), (c .before .before .before .before .before .before .before .before .pre .1, omega (arith, c .before .before .before .before .before .if1 .left), treat-wanted (c .before .before .before .before .before .before .before .before .pre .1) (omega (arith, c .before .before .before .before .before .if1 .left)) (c .before .before .before .literal-of .ensures) (c .before .before .word-at .ensures) (c .before .other-sign .ensures))))
+    (λ c. search needs)
+    (λ c. c .before .before .before .reductions .kept .1 .0)
+    (λ c. treat-ended (c .before .before .before .before .before .before .before .before .before .before .before .before .pre .1) (omega (arith, c .before .before .before .before .before .before .before .before .before .if1 .left)) (c .before .before .before .reductions .ensures) (settled (c .before .before .before .reductions .result .ending) (c .match .keys2)))
+    (λ c. omega (arith, c .before .before .before .before .before .reductions .kept .1 .0, c .before .before .before .before .before .before .before .before .before .before .before .before .before .before .pre .1 .ready .good .size))
+    (λ c. c .before .before .before .before .before .before .before .reductions .kept .1 .0)
+    (λ c. treat-used (c .before .before .before .before .before .before .before .before .before .before .before .before .before .before .before .before .pre .1) (omega (arith, c .before .before .before .before .before .before .before .before .before .before .before .before .before .if1 .left)) (c .before .before .before .before .before .before .before .reductions .ensures) (c .before .before .before .enum-told .given .1) (c .if2 .taken))
+    (λ c κs. (omega (arith, treat-room (c .before .before .before .before .before .before .before .before .before .before .before .before .before .before .before .before .before .pre .1) (omega (arith, c .before .before .before .before .before .before .before .before .before .before .before .before .before .before .if1 .left)) (c .before .before .before .before .before .before .before .before .reductions .ensures) (c .before .before .before .before .enum-told .given .1), c .before .before .before .before .before .before .before .before .before .before .before .before .before .before .before .before .before .pre .0), (treat-again (c .before .before .before .before .before .before .before .before .before .before .before .before .before .before .before .before .before .pre .1) (omega (arith, c .before .before .before .before .before .before .before .before .before .before .before .before .before .before .if1 .left)) (c .before .before .before .before .before .before .before .before .reductions .ensures) (c .before .before .before .before .enum-told .given .1), omega (arith, c .before .before .before .before .before .before .before .before .before .before .before .before .before .before .if1 .left), treat-wanted-again (c .before .before .before .before .before .before .before .before .before .before .before .before .before .before .before .before .before .pre .1) (omega (arith, c .before .before .before .before .before .before .before .before .before .before .before .before .before .before .if1 .left)) (c .before .before .before .before .before .before .before .before .reductions .ensures) (c .before .before .before .before .enum-told .given .1) (treat-wanted (c .before .before .before .before .before .before .before .before .before .before .before .before .before .before .before .before .before .pre .1) (omega (arith, c .before .before .before .before .before .before .before .before .before .before .before .before .before .before .if1 .left)) (c .before .before .before .before .before .before .before .before .before .before .before .before .literal-of .ensures) (c .before .before .before .before .before .before .before .before .before .before .before .word-at .ensures) (c .before .before .before .before .before .before .before .before .before .before .other-sign .ensures)), c .before .if2 .left)))
+    (λ c. c .before .before .extensions .kept .1 .0 ∙ c .before .before .before .before .before .before .before .before .before .before .before .reductions .kept .1 .0)
+    (λ c. treat-extended (c .before .before .before .before .before .before .before .before .before .before .before .before .before .before .before .before .before .before .before .before .pre .1) (omega (arith, c .before .before .before .before .before .before .before .before .before .before .before .before .before .before .before .before .before .if1 .left)) (c .before .before .before .before .before .before .before .before .before .before .before .reductions .ensures) (c .before .before .before .before .before .before .before .enum-told .given .1) (c .before .before .before .before .if2 .left) (c .before .before .extensions .ensures)))

@@ -1,0 +1,95 @@
+-- Machinery: what the functions of the checker promise one another, and what its verdict stands for. No public contract speaks of it.
+use mathlib.Core.List.{List, map}
+use mathlib.Core.Option.{Option, none, some}
+use mathlib.Core.Path.{_≡_}
+use Prim.Native.Nat.{ℕ, _+_, _≤_, _<_}
+use lib.ListN.{length}
+use Rattle.words.specs.Steps.{stepOf}
+use Rattle.words.specs.declared.Step.{Step}
+use Rattle.table.specs.File.{judge}
+use Rattle.rules.specs.Verdict.{Refusal, malformed, not-allowed, statusOf}
+use Rattle.rules.specs.Play.{Play, Performed, goes-on, not-possible, clashes, circular, perform, refusal, passed, stopped, check}
+use Rattle.engine.specs.State.{markAt, literalAt, parentAt}
+use Rattle.engine.specs.Leaves.{chain}
+use Rattle.engine.specs.Ready.{Ready, Stands}
+use Rattle.engine.specs.Ended.{Ended}
+use Rattle.engine.specs.Calls.{tableIn}
+use Rattle.engine.specs.declared.tableau.Place.{Place}
+use Rattle.engine.specs.declared.unify.Meeting.{Meeting}
+use Rattle.engine.specs.declared.unify.Meeting.the-variants.{Made, Clash, Circle}
+use Rattle.engine.specs.declared.check.Above.{Above}
+use Rattle.engine.specs.declared.check.Above.the-variants.{At, Nothing}
+use Rattle.engine.specs.declared.check.Judged.{Judged}
+use Rattle.engine.specs.declared.check.Judged.the-variants.{On, Malformed, NotAllowed, Clashes, Circular}
+use Rattle.engine.specs.declared.check.Verdict.{Verdict}
+use Rattle.engine.specs.declared.check.Verdict.the-variants.{Accepted, Refused}
+
+-- parents come before their children
+abbrev pub Upward : List ℕ → ℕ → Type 0
+Upward m leaves = (c : ℕ) → c < leaves → parentAt m c ≤ c
+
+-- the references of the literals from a leaf up, the leaf's own first
+abbrev pub lineage : List ℕ → ℕ → List ℕ
+lineage m head = chain (literalAt m) (parentAt m) head head
+
+abbrev pub aboveOf : Option ℕ → Above
+aboveOf none = Nothing
+aboveOf (some reference) = At reference
+
+abbrev pub judgedBy : Meeting → Place → Judged
+judgedBy Made place = On place
+judgedBy Clash place = Clashes
+judgedBy Circle place = Circular
+
+abbrev pub statusFor : Judged → ℕ
+statusFor (On place) = 0
+statusFor Malformed = 12
+statusFor NotAllowed = 13
+statusFor Clashes = 14
+statusFor Circular = 14
+
+-- the tableau goes on at a place
+pub record Moved (f m m′ : List ℕ) (place next : Place) : Type 0 where
+  pub ready : Ready f m′ next
+  pub steps : next .steps ≡ place .steps + 1
+  pub marks : (v : ℕ) → v < 528 → markAt m′ v ≡ markAt m v
+
+abbrev pub Moves : List ℕ → List ℕ → List ℕ → Place → Judged → Type 0
+Moves f m m′ place (On next) = Moved f m m′ place next
+Moves f m m′ place Malformed = Unit {0}
+Moves f m m′ place NotAllowed = Unit {0}
+Moves f m m′ place Clashes = Unit {0}
+Moves f m m′ place Circular = Unit {0}
+
+-- a play that the work words stand for
+abbrev pub PlayAt : List ℕ → List ℕ → Place → Play → Type 0
+PlayAt f m place p = Stands f m (judge f .question) place (p .tableau) (p .bindings)
+
+-- how a step was judged, by what the rules say of it
+abbrev pub Says : List ℕ → List ℕ → Step → Judged → Performed → Type 0
+Says f m s (On next) o = (q : Play) × (o ≡ goes-on q) × PlayAt f m next q
+Says f m s Malformed o = (o ≡ not-possible) × (refusal s ≡ malformed)
+Says f m s NotAllowed o = (o ≡ not-possible) × (refusal s ≡ not-allowed)
+Says f m s Clashes o = o ≡ clashes
+Says f m s Circular o = o ≡ circular
+
+-- one step at a place, for every play that the work words stand for
+pub record Checked (f m m′ : List ℕ) (bound : ℕ) (place : Place) (word : ℕ) (r : Judged) : Type 0 where
+  pub moves : Moves f m m′ place r
+  pub says : (p : Play) → PlayAt f m place p → Says f m′ (stepOf word) r (perform (tableIn f) bound p (stepOf word))
+
+-- the verdict on all steps
+pub record AcceptedAs (f m : List ℕ) (question bound : ℕ) (offered : List ℕ) (steps : ℕ) : Type 0 where
+  pub count : steps ≡ length offered
+  pub play : Play
+  pub passes : check (tableIn f) bound (map stepOf offered) ≡ passed play
+  pub ended : Ended f m question play
+
+pub record RefusedAs (f : List ℕ) (bound : ℕ) (offered : List ℕ) (status place : ℕ) : Type 0 where
+  pub why : Refusal
+  pub stops : check (tableIn f) bound (map stepOf offered) ≡ stopped why place
+  pub number : status ≡ statusOf why
+
+abbrev pub Decided : List ℕ → List ℕ → ℕ → ℕ → List ℕ → Verdict → Type 0
+Decided f m question bound offered (Accepted steps) = AcceptedAs f m question bound offered steps
+Decided f m question bound offered (Refused status place) = RefusedAs f bound offered status place

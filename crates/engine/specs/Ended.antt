@@ -1,0 +1,32 @@
+-- Machinery: what the work words hold where a search has found a proof or the checker has accepted one. No public contract speaks of it.
+use mathlib.Core.List.{List, map}
+use mathlib.Core.Path.{_≡_}
+use Prim.Native.Nat.{ℕ, _-_, _≤_, _<_}
+use lib.ListN.{length, take, drop}
+use Rattle.words.specs.Steps.{stepWord}
+use Rattle.words.specs.declared.Step.{Step}
+use Rattle.table.specs.Syntax.{Table}
+use Rattle.rules.specs.Verdict.{finds}
+use Rattle.rules.specs.Play.{Play, passed, check, searchFor}
+use Rattle.engine.specs.State.{copiesOf, markAt, bound}
+use Rattle.engine.specs.Good.{Good}
+use Rattle.engine.specs.Leaves.{questionsAmong}
+
+-- the play that has come to its end: its bindings and its copies of the question; no variable is numbered yet
+pub record Ended (f m : List ℕ) (question : ℕ) (p : Play) : Type 0 where
+  pub good : Good f m
+  pub bindings : p .bindings ≡ bound f m
+  pub questions : p .tableau .questions ≡ questionsAmong m question (copiesOf m)
+  pub unnumbered : (v : ℕ) → v < 528 → markAt m v ≡ 0
+
+-- a search has found a proof: its steps stand among the work words
+pub record Found (t : Table) (f m : List ℕ) (question bound budget left steps : ℕ) : Type 0 where
+  pub proof : List Step
+  pub play : Play
+  pub says : searchFor t bound budget ≡ finds proof (budget - left)
+  pub within : left ≤ budget
+  pub count : steps ≡ length proof
+  pub few : steps ≤ 199
+  pub noted : take steps (drop 1984 m) ≡ map stepWord proof
+  pub passes : check t bound proof ≡ passed play
+  pub ended : Ended f m question play

@@ -1,0 +1,194 @@
+// The checker: an offered proof, step by step.
+use crate::candidates;
+use crate::candidates::Candidate;
+use crate::memory;
+use crate::tableau;
+use crate::tableau::Place;
+use crate::tableau::Taken;
+use crate::unify::Meeting;
+use words::Step;
+use words::fields;
+ghost use mathlib.Core.Path.{_≡_};
+ghost use Prim.Native.Nat.{ℕ, _-_, _≤_, _<_};
+ghost use lib.ListN.{length, getElem?};
+ghost use Rattle.words.specs.Steps.{stepOf};
+ghost use Rattle.table.specs.File.{judge};
+ghost use Rattle.engine.specs.Good.{wordAt};
+ghost use Rattle.engine.specs.Ready.{Ready, leafOf};
+ghost use Rattle.engine.specs.Scanning.{otherSign};
+ghost use Rattle.engine.specs.Checking.{Upward, lineage, aboveOf, judgedBy, statusFor, Checked, Decided};
+
+// What becomes of a step: the tableau goes on, or the step is malformed, not allowed, or its pair does not unify with what is bound.
+pub(crate) enum Judged {
+    On(Place),
+    Malformed,
+    NotAllowed,
+    Clashes,
+    Circular,
+}
+
+// The reference of an ancestor's literal.
+pub(crate) enum Above {
+    At(u32),
+    Nothing,
+}
+
+pub(crate) enum Verdict {
+    // The number of steps.
+    Accepted(u32),
+    // The status, and the place.
+    Refused(u32, u32),
+}
+
+// The ancestor at a height: 1 is the parent.
+fn ancestor(work: &[u32], head: u32, height: u32) -> Above
+    requires { ⌜ (length (now work) ≡ 16384) × (0 < head) × (head ≤ 231) × Upward (now work) head ⌝ }
+    ensures { λ r. ⌜ r ≡ aboveOf (getElem? (lineage (now (work .entry)) head) height) ⌝ }
+{
+    let mut at = head;
+    let mut left = height;
+    while left != 0 {
+        at = tableau::parent_of(work, at);
+        if at == 0 {
+            return Above::Nothing;
+        }
+        left -= 1;
+    }
+    Above::At(tableau::literal_of(work, at))
+}
+
+// The word that fits the leftmost leaf.
+fn wanted(file: &[u32], work: &[u32], place: Place) -> u32
+    requires { ⌜ Ready (now file) (now work) place × (0 < place .head) ⌝ }
+    ensures { λ r. ⌜ r ≡ otherSign (wordAt (now (file .entry)) (now (work .entry)) (leafOf (now (work .entry)) place)) ⌝ }
+{
+    candidates::other_sign(memory::word_at(file, work, tableau::literal_of(work, place.head)))
+}
+
+fn by_meeting(taken: Taken) -> Judged
+    ensures { λ r. ⌜ r ≡ judgedBy (taken .meeting) (taken .place) ⌝ }
+{
+    let meeting = taken.meeting;
+    let place = taken.place;
+    match meeting {
+        Meeting::Made => Judged::On(place),
+        Meeting::Clash => Judged::Clashes,
+        Meeting::Circle => Judged::Circular,
+    }
+}
+
+fn reduction(file: &[u32], work: &mut [u32], place: Place, word: u32, height: u32) -> Judged
+    requires { ⌜ Ready (now file) (now work) place × (stepOf word ≡ Step.Reduction height) ⌝ }
+    ensures { λ r. ⌜ ((bound : ℕ) → Checked (now (file .entry)) (now (work .entry)) (now (work .exit)) bound place word r) ⌝ }
+{
+    let head = place.head;
+    if head == 0 {
+        return Judged::NotAllowed;
+    }
+    let above = ancestor(work, head, height);
+    let Above::At(literal) = above else {
+        return Judged::NotAllowed;
+    };
+    let found = memory::word_at(file, work, literal);
+    if found != wanted(file, work, place) {
+        return Judged::NotAllowed;
+    }
+    by_meeting(tableau::reduce(file, work, place, literal, word))
+}
+
+// How many words the body of an accepted file has.
+fn body_of(file: &[u32]) -> u32
+    requires { ⌜ judge (now file) .status ≡ 0 ⌝ }
+    ensures { λ r. ⌜ r ≡ length (now (file .entry)) - 4 ⌝ }
+{
+    (file.len() - 4) as u32
+}
+
+fn extension(
+    file: &[u32],
+    work: &mut [u32],
+    bound: u32,
+    place: Place,
+    word: u32,
+    clause: u32,
+    literal: u32,
+) -> Judged
+    requires { ⌜ Ready (now file) (now work) place × (judge (now file) .status ≡ 0) × (bound ≤ 32) × (stepOf word ≡ Step.Extension clause literal) ⌝ }
+    ensures { λ r. ⌜ Checked (now (file .entry)) (now (work .entry)) (now (work .exit)) bound place word r ⌝ }
+{
+    if place.head == 0 {
+        return Judged::NotAllowed;
+    }
+    if bound < work[memory::COPIES] {
+        return Judged::NotAllowed;
+    }
+    let found = candidates::entry(file, body_of(file), clause, literal);
+    let Candidate::Entry(entry) = found else {
+        return Judged::NotAllowed;
+    };
+    let at = entry.at;
+    let start = entry.start;
+    if file[fields::wide(at)] != wanted(file, work, place) {
+        return Judged::NotAllowed;
+    }
+    by_meeting(tableau::extend(file, work, place, start, at - start, word))
+}
+
+fn step_taken(file: &[u32], work: &mut [u32], bound: u32, place: Place, word: u32) -> Judged
+    requires { ⌜ Ready (now file) (now work) place × (judge (now file) .status ≡ 0) × (bound ≤ 32) ⌝ }
+    ensures { λ r. ⌜ Checked (now (file .entry)) (now (work .entry)) (now (work .exit)) bound place word r ⌝ }
+{
+    let step = words::steps::decode(word);
+    match step {
+        Step::Reduction(height) => reduction(file, work, place, word, height),
+        Step::Extension(clause, literal) => extension(
+            file,
+            work,
+            bound,
+            place,
+            word,
+            clause,
+            literal,
+        ),
+        Step::Malformed => Judged::Malformed,
+    }
+}
+
+// The number of the status of a step that was refused.
+fn status(judged: Judged) -> u32
+    ensures { λ r. ⌜ r ≡ statusFor judged ⌝ }
+{
+    match judged {
+        Judged::On(_) => 0,
+        Judged::Malformed => 12,
+        Judged::NotAllowed => 13,
+        Judged::Clashes => 14,
+        Judged::Circular => 14,
+    }
+}
+
+pub(crate) fn run(
+    file: &[u32],
+    work: &mut [u32],
+    question: u32,
+    bound: u32,
+    offered: &[u32],
+) -> Verdict
+    requires { ⌜ (length (now work) ≡ 16384) × (judge (now file) .status ≡ 0) × (question ≡ judge (now file) .question) × (bound ≤ 32) ⌝ }
+    ensures { λ r. ⌜ Decided (now (file .entry)) (now (work .exit)) question bound (now (offered .entry)) r ⌝ }
+{
+    let mut place = tableau::begin(file, work, question);
+    let mut i = 0;
+    while i < offered.len() {
+        let judged = step_taken(file, work, bound, place, offered[i]);
+        let Judged::On(next) = judged else {
+            return Verdict::Refused(status(judged), place.steps);
+        };
+        place = next;
+        i += 1;
+    }
+    if place.head != 0 {
+        return Verdict::Refused(15, place.steps);
+    }
+    Verdict::Accepted(place.steps)
+}

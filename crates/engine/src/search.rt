@@ -1,0 +1,225 @@
+// Depth-first search in the stated order.
+use crate::candidates;
+use crate::candidates::Candidate;
+use crate::candidates::Scan;
+use crate::memory;
+use crate::tableau;
+use crate::tableau::Place;
+use crate::tableau::Taken;
+use crate::unify;
+use crate::unify::Meeting;
+use words::Step;
+use words::fields;
+use words::steps;
+ghost use mathlib.Core.List.{List};
+ghost use mathlib.Core.Path.{_≡_};
+ghost use Prim.Native.Nat.{ℕ, _≤_, _<_, _-_};
+ghost use lib.ListN.{length};
+ghost use Rattle.table.specs.File.{judge};
+ghost use Rattle.engine.specs.State.{copiesOf, countOf};
+ghost use Rattle.engine.specs.Good.{Good};
+ghost use Rattle.engine.specs.Searching.{without, Treats, Wanted, Allows, Takes, Restored, Treated, Attempted, Rowed, reductionsAt, extensionsAt, Ends};
+
+// What a search goes by: how many words of the file are the body, and the bound.
+pub(crate) struct Task {
+    pub body: u32,
+    pub bound: u32,
+}
+
+// A candidate of a leaf: the reference of an ancestor's literal, and its height; or where a literal is entered.
+pub(crate) enum Move {
+    Reduce(u32, u32),
+    Enter(Scan),
+}
+
+pub(crate) enum Ending {
+    Found,
+    Nothing,
+    Out,
+}
+
+// How a search ended, the tries left of its budget, and the steps of what it found.
+pub(crate) struct Searched {
+    pub ending: Ending,
+    pub left: u32,
+    pub steps: u32,
+}
+
+// No proof was found, or the budget ended.
+fn without(ending: Ending, left: u32) -> Searched
+    ensures { λ r. ⌜ r ≡ without ending left ⌝ }
+{
+    Searched {
+        ending,
+        left,
+        steps: 0,
+    }
+}
+
+// The candidate is tried.
+fn take(file: &[u32], work: &mut [u32], task: Task, place: Place, candidate: Move) -> Taken
+    requires { ⌜ Treats (now file) (now work) task place × (0 < place .head) × Allows (now file) (now work) task place candidate ⌝ }
+    ensures { λ r. ⌜ Takes (now (file .entry)) (now (work .entry)) (now (work .exit)) task place candidate r ⌝ }
+{
+    match candidate {
+        Move::Reduce(ancestor, height) => tableau::reduce(file, work, place, ancestor, height),
+        Move::Enter(scan) => {
+            let start = scan.start;
+            let offset = scan.at - start;
+            let step = steps::encode(Step::Extension(scan.clauses - 1, scan.literals));
+            tableau::extend(file, work, place, start, offset, step)
+        }
+    }
+}
+
+// So many bindings and copies are left.
+fn restore(work: &mut [u32], count: u32, copies: u32)
+    requires { ⌜ ((f : List ℕ) × Good f (now work)) × (count ≤ countOf (now work)) ⌝ }
+    ensures { λ _. ⌜ ((f : List ℕ) → Good f (now (work .entry)) → Restored f (now (work .entry)) (now (work .exit)) count copies) ⌝ }
+{
+    unify::undo(work, count);
+    work[memory::COPIES] = copies;
+}
+
+// One candidate, its try already paid. Where it fails, or all below it, it is taken back.
+fn attempt(
+    file: &[u32],
+    work: &mut [u32],
+    task: Task,
+    place: Place,
+    candidate: Move,
+    left: u32,
+) -> Searched
+    requires { ⌜ Treats (now file) (now work) task place × (0 < place .head) × Allows (now file) (now work) task place candidate ⌝ }
+    ensures { λ r. ⌜ Attempted (now (file .entry)) (now (work .entry)) (now (work .exit)) task place candidate left r ⌝ }
+{
+    let count = work[memory::COUNT];
+    let copies = work[memory::COPIES];
+    let taken = take(file, work, task, place, candidate);
+    let meeting = taken.meeting;
+    let Meeting::Made = meeting else {
+        restore(work, count, copies);
+        return without(Ending::Nothing, left);
+    };
+    let tried = treat(file, work, task, taken.place, left);
+    let ending = tried.ending;
+    let Ending::Nothing = ending else {
+        return tried;
+    };
+    restore(work, count, copies);
+    tried
+}
+
+// The reductions of the leftmost leaf, nearest ancestor first.
+fn reductions(
+    file: &[u32],
+    work: &mut [u32],
+    task: Task,
+    place: Place,
+    wanted: u32,
+    tries: u32,
+) -> Searched
+    requires { ⌜ Treats (now file) (now work) task place × (0 < place .head) × Wanted (now file) (now work) place wanted ⌝ }
+    ensures { λ r. ⌜ Rowed (now (file .entry)) (now (work .entry)) (now (work .exit)) task place tries r (reductionsAt (now (file .entry)) (now (work .entry)) place) ⌝ }
+{
+    let mut ancestor = tableau::parent_of(work, place.head);
+    let mut height: u32 = 0;
+    let mut left = tries;
+    while ancestor != 0 {
+        let literal = tableau::literal_of(work, ancestor);
+        ancestor = tableau::parent_of(work, ancestor);
+        height += 1;
+        if memory::word_at(file, work, literal) != wanted {
+            continue;
+        }
+        if left == 0 {
+            return without(Ending::Out, left);
+        }
+        let candidate = Move::Reduce(literal, height);
+        let tried = attempt(file, work, task, place, candidate, left - 1);
+        let ending = tried.ending;
+        let Ending::Nothing = ending else {
+            return tried;
+        };
+        left = tried.left;
+    }
+    without(Ending::Nothing, left)
+}
+
+// The extensions of the leftmost leaf, by clause, then literal.
+fn extensions(
+    file: &[u32],
+    work: &mut [u32],
+    task: Task,
+    place: Place,
+    wanted: u32,
+    tries: u32,
+) -> Searched
+    requires { ⌜ Treats (now file) (now work) task place × (0 < place .head) × Wanted (now file) (now work) place wanted × (copiesOf (now work) ≤ task .bound) ⌝ }
+    ensures { λ r. ⌜ Rowed (now (file .entry)) (now (work .entry)) (now (work .exit)) task place tries r (extensionsAt (now (file .entry)) (now (work .entry)) task place) ⌝ }
+{
+    let body = task.body;
+    let mut scan = candidates::beginning();
+    let mut left = tries;
+    loop {
+        let candidate = candidates::next(file, body, wanted, scan);
+        let Candidate::Entry(entry) = candidate else {
+            return without(Ending::Nothing, left);
+        };
+        if left == 0 {
+            return without(Ending::Out, left);
+        }
+        let tried = attempt(file, work, task, place, Move::Enter(entry), left - 1);
+        let ending = tried.ending;
+        let Ending::Nothing = ending else {
+            return tried;
+        };
+        left = tried.left;
+        scan = candidates::past(entry, wanted);
+    }
+}
+
+// The leftmost leaf is treated: its reductions, then its extensions, unless the bound's are used.
+fn treat(file: &[u32], work: &mut [u32], task: Task, place: Place, left: u32) -> Searched
+    requires { ⌜ Treats (now file) (now work) task place ⌝ }
+    ensures { λ r. ⌜ Treated (now (file .entry)) (now (work .entry)) (now (work .exit)) task place left r ⌝ }
+{
+    let head = place.head;
+    if head == 0 {
+        return Searched {
+            ending: Ending::Found,
+            left,
+            steps: place.steps,
+        };
+    }
+    let word = memory::word_at(file, work, tableau::literal_of(work, head));
+    let wanted = candidates::other_sign(word);
+    let reduced = reductions(file, work, task, place, wanted, left);
+    let ending = reduced.ending;
+    let Ending::Nothing = ending else {
+        return reduced;
+    };
+    if task.bound < work[memory::COPIES] {
+        return reduced;
+    }
+    extensions(file, work, task, place, wanted, reduced.left)
+}
+
+// A closed tableau for the question within the bound, if the budget lasts; its steps stand among the work words, and no variable is numbered yet.
+pub(crate) fn find(
+    file: &[u32],
+    work: &mut [u32],
+    question: u32,
+    bound: u32,
+    budget: u32,
+) -> Searched
+    requires { ⌜ (length (now work) ≡ 16384) × (judge (now file) .status ≡ 0) × (question ≡ judge (now file) .question) × (bound ≤ 32) ⌝ }
+    ensures { λ r. ⌜ Ends (r .ending) (now (file .entry)) (now (work .exit)) question bound budget r ⌝ }
+{
+    let place = tableau::begin(file, work, question);
+    let body = (file.len() - 4) as u32;
+    let task = Task { body, bound };
+    let sought = treat(file, work, task, place, budget);
+    memory::clear(work, memory::NUMBERS, 528);
+    sought
+}
