@@ -1,0 +1,346 @@
+// Answers requests from standard input, one a line: every public call, its buffers filled before it and looked over after it.
+ghost use mathlib.Core.Path.{_≡_};
+ghost use Prim.Native.Nat.{_≤_, _<_, min};
+ghost use lib.ListN.{length};
+ghost use Rattle.table.specs.File.{judge};
+use engine::Outcome;
+use engine::calls;
+use libc::STDIN_FILENO;
+use libc::STDOUT_FILENO;
+use text::part;
+use text::piece;
+use text::put;
+use text::request;
+use text::request::Request;
+use text::result;
+use words::fields::wide;
+
+fn least(a: usize, b: usize) -> usize
+    ensures { λ r. ⌜ r ≡ min a b ⌝ }
+{
+    if a < b {
+        return a;
+    }
+    b
+}
+
+fn write_line(out: &[u8], n: usize) {
+    io::write_all(STDOUT_FILENO, part::front_bytes(out, n));
+}
+
+// Room for the longest line, read or written.
+fn line_buffer() -> [u8; 190000]
+    ensures { λ r. ⌜ 190000 ≡ length r ⌝ }
+{
+    [0; 190000]
+}
+
+fn write_outcome(o: Outcome, steps: &[u32], answer: &[u32], intact: bool) {
+    let mut out = line_buffer();
+    let next = result::numbers(
+        &mut out,
+        0,
+        o.status,
+        o.place,
+        o.proof,
+        o.disjuncts,
+        o.answer,
+        o.tries,
+    );
+    let n = result::lists(&mut out, next, steps, answer, intact);
+    write_line(&out, n);
+}
+
+// The words after the proof and after the answer, and the work words, are as they should be.
+fn intact(status: u32, proof: &[u32], answer: &[u32], work: &[u32]) -> bool {
+    if result::work_kept(status, work) {
+        if result::untouched(proof) {
+            return result::untouched(answer);
+        }
+    }
+    false
+}
+
+fn report(o: Outcome, steps: usize, proof: &[u32], answer: &[u32], work: &[u32]) {
+    let words = wide(o.answer);
+    let kept = intact(
+        o.status,
+        part::rest(proof, steps),
+        part::rest(answer, words),
+        work,
+    );
+    write_outcome(
+        o,
+        part::front(proof, steps),
+        part::front(answer, words),
+        kept,
+    );
+}
+
+fn search(
+    file: &[u32],
+    bound: u32,
+    budget: u32,
+    proof: &mut [u32],
+    answer: &mut [u32],
+    work: &mut [u32],
+) {
+    let o = calls::search(file, bound, budget, proof, answer, work);
+    report(o, wide(o.proof), proof, answer, work);
+}
+
+fn check(file: &[u32], bound: u32, offered: &[u32], answer: &mut [u32], work: &mut [u32]) {
+    let o = calls::check_proof(file, bound, offered, answer, work);
+    report(o, 0, part::front(offered, 0), answer, work);
+}
+
+// A buffer filled before a call.
+fn short_buffer() -> [u32; 300]
+    ensures { λ r. ⌜ 300 ≡ length r ⌝ }
+{
+    [0xA5A5A5A5; 300]
+}
+
+fn long_buffer() -> [u32; 20000]
+    ensures { λ r. ⌜ 20000 ≡ length r ⌝ }
+{
+    [0xA5A5A5A5; 20000]
+}
+
+// A buffer for words that a line gives.
+fn proof_buffer() -> [u32; 1024]
+    ensures { λ r. ⌜ 1024 ≡ length r ⌝ }
+{
+    [0; 1024]
+}
+
+fn file_buffer() -> [u32; 16100]
+    ensures { λ r. ⌜ 16100 ≡ length r ⌝ }
+{
+    [0; 16100]
+}
+
+// Lends the work words and answer words that are asked for.
+fn lend_search(
+    file: &[u32],
+    bound: u32,
+    budget: u32,
+    proof: &mut [u32],
+    answers: usize,
+    works: usize,
+) {
+    let mut answer = long_buffer();
+    let mut work = long_buffer();
+    let a = least(answers, 20000);
+    let w = least(works, 20000);
+    search(file, bound, budget, proof, &mut answer[..a], &mut work[..w]);
+}
+
+fn lend_check(file: &[u32], bound: u32, offered: &[u32], answers: usize, works: usize) {
+    let mut answer = long_buffer();
+    let mut work = long_buffer();
+    let a = least(answers, 20000);
+    let w = least(works, 20000);
+    check(file, bound, offered, &mut answer[..a], &mut work[..w]);
+}
+
+fn lend_proof(file: &[u32], bound: u32, budget: u32, proofs: usize, answers: usize, works: usize) {
+    let mut proof = short_buffer();
+    let p = least(proofs, 300);
+    lend_search(file, bound, budget, &mut proof[..p], answers, works);
+}
+
+fn answer_search(
+    line: &[u8],
+    file: usize,
+    bound: u32,
+    budget: u32,
+    work: u32,
+    proof: u32,
+    answer: u32,
+) {
+    let mut space = file_buffer();
+    let n = piece::gather(line, file, &mut space);
+    lend_proof(
+        part::front(&space, n),
+        bound,
+        budget,
+        wide(proof),
+        wide(answer),
+        wide(work),
+    );
+}
+
+fn answer_check(line: &[u8], file: usize, offered: usize, bound: u32, work: u32, answer: u32) {
+    let mut space = file_buffer();
+    let n = piece::gather(line, file, &mut space);
+    let mut proof = proof_buffer();
+    let m = piece::gather(line, offered, &mut proof);
+    lend_check(
+        part::front(&space, n),
+        bound,
+        part::front(&proof, m),
+        wide(answer),
+        wide(work),
+    );
+}
+
+fn count(list: &[u32]) -> u32 {
+    least(list.len(), 4294967295) as u32
+}
+
+fn write_found(start: u32, list: &[u32]) {
+    let mut out = io::buffer();
+    let n = result::found(&mut out, 0, start, count(list), list);
+    write_line(&out, n);
+}
+
+// Where a clause of an accepted file begins.
+fn start_of(file: &[u32], number: usize) -> u32
+    requires { ⌜ (judge (now file) .status ≡ 0) × (number < judge (now file) .clauses) ⌝ }
+{
+    let end = file.len() - 4;
+    table::file::start_of(&file[..end], number) as u32
+}
+
+fn lookup(file: &[u32], number: usize) {
+    let judged = table::file::judge(file);
+    let clauses = judged.clauses;
+    if judged.status != 0 {
+        io::write_all(STDOUT_FILENO, b"start - length 0 / -\n");
+        return;
+    }
+    if clauses <= number {
+        io::write_all(STDOUT_FILENO, b"start - length 0 / -\n");
+        return;
+    }
+    write_found(start_of(file, number), table::file::lookup(file, number));
+}
+
+fn answer_lookup(line: &[u8], file: usize, number: u32) {
+    let mut space = file_buffer();
+    let n = piece::gather(line, file, &mut space);
+    lookup(part::front(&space, n), wide(number));
+}
+
+fn answer_request(line: &[u8]) {
+    let request = request::read(line);
+    match request {
+        Request::Lookup { number, file } => answer_lookup(line, file, number),
+        Request::Search {
+            bound,
+            budget,
+            work,
+            proof,
+            answer,
+            file,
+        } => answer_search(line, file, bound, budget, work, proof, answer),
+        Request::Check {
+            bound,
+            work,
+            answer,
+            offered,
+            file,
+        } => answer_check(line, file, offered, bound, work, answer),
+        Request::Unread => {
+            io::write_all(STDOUT_FILENO, b"error\n");
+        }
+    }
+}
+
+// Empty lines and lines that begin with `#` have no result; a line that fills the buffer is too long to read.
+fn answer_line(line: &[u8], full: bool) {
+    if line.len() == 0 {
+        return;
+    }
+    if line[0] == b'#' {
+        return;
+    }
+    if full {
+        io::write_all(STDOUT_FILENO, b"error\n");
+        return;
+    }
+    answer_request(line);
+}
+
+// Answers a line that has ended; how much of the buffer is then in use.
+fn end_line(line: &[u8], used: usize, ended: bool) -> usize
+    requires { ⌜ used ≤ length (now line) ⌝ }
+    ensures { λ r. ⌜ r ≤ length (now (line .entry)) ⌝ }
+{
+    if ended {
+        answer_line(part::front_bytes(line, used), used == line.len());
+        return 0;
+    }
+    used
+}
+
+fn line_end(chunk: &[u8], at: usize) -> usize
+    requires { ⌜ at < length (now chunk) ⌝ }
+    ensures { λ r. ⌜ (at ≤ r) × (r ≤ length (now (chunk .entry))) ⌝ }
+{
+    piece::end_of(chunk, at, b'\n')
+}
+
+// Adds what was read to the line, and answers each line that ends in it.
+fn feed(chunk: &[u8], line: &mut [u8], from: usize) -> usize
+    requires { ⌜ from ≤ length (now line) ⌝ }
+    ensures { λ r. ⌜ r ≤ length (now (line .entry)) ⌝ }
+{
+    let mut used = from;
+    let mut at = 0;
+    while at < chunk.len() {
+        let end = line_end(chunk, at);
+        let next = put::bytes(line, used, &chunk[at..end]);
+        used = end_line(line, next, end < chunk.len());
+        at = end + 1;
+    }
+    used
+}
+
+// How much of the line's buffer is in use, and whether there may be more to read.
+pub struct Fed {
+    pub used: usize,
+    pub more: bool,
+}
+
+// Reads once. The last line may lack its line feed.
+fn read_some(line: &mut [u8], used: usize) -> Fed
+    requires { ⌜ used ≤ length (now line) ⌝ }
+    ensures { λ r. ⌜ r .used ≤ length (now (line .entry)) ⌝ }
+{
+    let mut chunk = io::large_buffer();
+    let got = libc::read(STDIN_FILENO, &mut chunk);
+    if got <= 0 {
+        end_line(line, used, true);
+        return Fed {
+            used: 0,
+            more: false,
+        };
+    }
+    let n = io::count(got, &chunk);
+    let next = feed(&chunk[..n], line, used);
+    Fed {
+        used: next,
+        more: true,
+    }
+}
+
+fn serve(line: &mut [u8]) {
+    let mut used = 0;
+    let mut turns = u64::MAX;
+    while turns > 0 {
+        let fed = read_some(line, used);
+        let more = fed.more;
+        if !more {
+            return;
+        }
+        used = fed.used;
+        turns -= 1;
+    }
+}
+
+fn main() {
+    let mut line = line_buffer();
+    serve(&mut line);
+}

@@ -1,0 +1,20 @@
+use borrow.Author.Needs.{needs}
+use Rattle.text.proofs.Parts.{part-laws}
+use Rattle.text.proofs.part.rest.Statement.{statement}
+use Rattle.text.proofs.part.rest.Tie as tie
+
+ruleset all = (needs, part-laws)
+
+pub rest-spec : {M : Type 1} → statement M
+rest-spec =
+    tie.close
+    (tie.spec
+    (λ c. search all)
+    (λ c. search all)
+    (λ c. search all)
+    (λ c. search all)
+    (λ c. search all)
+    (λ c. search all)
+    (λ c. search all)
+    (λ c. search all)
+    (λ c. search all))

@@ -1,0 +1,16 @@
+use borrow.Author.Needs.{needs}
+use Rattle.text.proofs.Lines.{line-laws}
+use Rattle.text.proofs.result.barred.Statement.{statement}
+use Rattle.text.proofs.result.barred.Tie as tie
+
+ruleset all = (needs, line-laws)
+
+pub barred-spec : {M : Type 1} → statement M
+barred-spec =
+    tie.close
+    (tie.spec
+    (λ c. search all)
+    (λ c κs. search all)
+    (λ c κs. search all)
+    (λ c. search all)
+    (λ c. search all))

@@ -1,0 +1,115 @@
+// Writing into a lent buffer from a position on, as much as there is room for. Each function answers the position after what it wrote.
+ghost use mathlib.Core.Path.{_≡_};
+ghost use mathlib.Core.List.{[], _∷_};
+ghost use Prim.Native.Nat.{_^_, _≤_, _<_};
+ghost use Rattle.text.specs.Put.{Put};
+ghost use Rattle.text.specs.Digits.{glyphOf, digitsOf, hexText, decimalText, spacedText, wordsText};
+use words::fields::wide;
+
+pub fn byte(out: &mut [u8], at: usize, b: u8) -> usize
+    ensures { λ r. ⌜ Put (now (out .entry)) at (b ∷ []) (now (out .exit)) r ⌝ }
+{
+    if at < out.len() {
+        out[at] = b;
+        return at + 1;
+    }
+    at
+}
+
+pub fn word(out: &mut [u32], at: usize, w: u32) -> usize
+    ensures { λ r. ⌜ Put (now (out .entry)) at (w ∷ []) (now (out .exit)) r ⌝ }
+{
+    if at < out.len() {
+        out[at] = w;
+        return at + 1;
+    }
+    at
+}
+
+pub fn bytes(out: &mut [u8], from: usize, text: &[u8]) -> usize
+    ensures { λ r. ⌜ Put (now (out .entry)) from (now (text .entry)) (now (out .exit)) r ⌝ }
+{
+    let mut at = from;
+    let mut i = 0;
+    while i < text.len() {
+        at = byte(out, at, text[i]);
+        i += 1;
+    }
+    at
+}
+
+fn glyph(d: u64) -> u8
+    requires { ⌜ d < 16 ⌝ }
+    ensures { λ r. ⌜ r ≡ glyphOf d ⌝ }
+{
+    if d < 10 {
+        return 48 + d as u8;
+    }
+    55 + d as u8
+}
+
+// The last digits of a number, so many. `above` is the power of the base with as many zeros.
+fn digits(out: &mut [u8], from: usize, n: u64, base: u64, count: usize, above: u64) -> usize
+    requires { ⌜ (2 ≤ base) × (base ≤ 16) × (above ≡ base ^ count) ⌝ }
+    ensures { λ r. ⌜ Put (now (out .entry)) from (digitsOf base count n) (now (out .exit)) r ⌝ }
+{
+    let mut at = from;
+    let mut left = count;
+    let mut power = above;
+    while left > 0 {
+        left -= 1;
+        power /= base;
+        at = byte(out, at, glyph(n / power % base));
+    }
+    at
+}
+
+// A word in eight hexadecimal digits.
+pub fn hex(out: &mut [u8], at: usize, w: u32) -> usize
+    ensures { λ r. ⌜ Put (now (out .entry)) at (hexText w) (now (out .exit)) r ⌝ }
+{
+    digits(out, at, w as u64, 16, 8, 0x1_0000_0000)
+}
+
+// A word in decimal digits, with no zeros in front.
+pub fn decimal(out: &mut [u8], at: usize, w: u32) -> usize
+    ensures { λ r. ⌜ Put (now (out .entry)) at (decimalText w) (now (out .exit)) r ⌝ }
+{
+    let n = w as u64;
+    let mut count = 10;
+    let mut above: u64 = 10_000_000_000;
+    while count > 1 {
+        let below = above / 10;
+        if below <= n {
+            return digits(out, at, n, 10, count, above);
+        }
+        above = below;
+        count -= 1;
+    }
+    digits(out, at, n, 10, 1, 10)
+}
+
+// Words, each with a space before it.
+pub fn spaced(out: &mut [u8], from: usize, list: &[u32]) -> usize
+    ensures { λ r. ⌜ Put (now (out .entry)) from (spacedText (now (list .entry))) (now (out .exit)) r ⌝ }
+{
+    let mut at = from;
+    let mut i = 0;
+    while i < list.len() {
+        let next = byte(out, at, b' ');
+        at = hex(out, next, list[i]);
+        i += 1;
+    }
+    at
+}
+
+// Words with spaces between them; `-` stands for none.
+pub fn list(out: &mut [u8], at: usize, list: &[u32]) -> usize
+    ensures { λ r. ⌜ Put (now (out .entry)) at (wordsText (now (list .entry))) (now (out .exit)) r ⌝ }
+{
+    if list.len() == 0 {
+        return byte(out, at, b'-');
+    }
+    let next = hex(out, at, list[0]);
+    spaced(out, next, &list[1..])
+}
