@@ -1,0 +1,115 @@
+//! The calls of document 01 with structure sharing, all state in the lent work words: the same results as the plain engine,
+//! as fast as can be, as a mark to measure against.
+
+mod answer;
+mod memory;
+mod play;
+mod read;
+mod terms;
+mod words;
+pub mod workloads;
+
+use calls::{Engine, Lent};
+use engine::{LARGEST_BOUND, PROOF_WORDS, Report, Status, WORK_WORDS};
+use memory::{FOUND_STEPS, TRIES, Work, load};
+use play::End;
+use read::{Accepted, accept};
+use std::ops::Range;
+
+pub fn clause_range(file: &[u32], number: u32) -> Option<Range<usize>> {
+    let body = accept(file).ok()?.body;
+    let start = play::clause_place(body, number)?;
+    Some(start..start + 1 + (body[start] >> 8 & 255) as usize)
+}
+
+pub fn search(
+    file: &[u32],
+    bound: u32,
+    budget: u32,
+    work: &mut [u32],
+    proof: &mut [u32],
+    answer: &mut [u32],
+) -> Report {
+    let Some(work) = work.first_chunk_mut::<WORK_WORDS>() else {
+        return Report::of(Status::WorkTooShort);
+    };
+    let report = if proof.len() < PROOF_WORDS {
+        Report::of(Status::ProofTooShort)
+    } else {
+        admit(file, bound).map_or_else(|report| report, |file| search_file(&file, bound, budget, work, proof, answer))
+    };
+    work.fill(0);
+    report
+}
+
+pub fn check(file: &[u32], offered: &[u32], bound: u32, work: &mut [u32], answer: &mut [u32]) -> Report {
+    let Some(work) = work.first_chunk_mut::<WORK_WORDS>() else {
+        return Report::of(Status::WorkTooShort);
+    };
+    let report =
+        admit(file, bound).map_or_else(|report| report, |file| check_file(&file, offered, bound, work, answer));
+    work.fill(0);
+    report
+}
+
+fn admit(file: &[u32], bound: u32) -> Result<Accepted<'_>, Report> {
+    if bound > LARGEST_BOUND { Err(Report::of(Status::BoundTooLarge)) } else { accept(file) }
+}
+
+fn search_file(
+    file: &Accepted,
+    bound: u32,
+    budget: u32,
+    work: &mut Work,
+    proof: &mut [u32],
+    answer: &mut [u32],
+) -> Report {
+    let end = play::search(file, bound, budget, work);
+    let tries = load(work, TRIES);
+    match end {
+        End::NoProof => Report::after(Status::NoProof, tries),
+        End::RanOut => Report::after(Status::RanOut, tries),
+        End::Found => {
+            let report = write_answer(file, work, answer);
+            for (step, word) in proof.iter_mut().take(report.proof_words as usize).enumerate() {
+                *word = play::step_word(file.body, work, step);
+            }
+            Report { tries, ..report }
+        }
+    }
+}
+
+fn check_file(file: &Accepted, offered: &[u32], bound: u32, work: &mut Work, answer: &mut [u32]) -> Report {
+    match play::check(file, bound, offered, work) {
+        Ok(()) => write_answer(file, work, answer),
+        Err((status, place)) => Report::at(status, place),
+    }
+}
+
+fn write_answer(file: &Accepted, work: &mut Work, buffer: &mut [u32]) -> Report {
+    let Some(written) = answer::write(file, work, buffer) else {
+        return Report::of(Status::AnswerTooLong);
+    };
+    Report {
+        proof_words: load(work, FOUND_STEPS),
+        disjuncts: written.disjuncts,
+        answer_words: written.words as u32,
+        ..Report::of(Status::Proved)
+    }
+}
+
+pub struct Fast;
+
+impl Engine for Fast {
+    fn lookup(&mut self, file: &[u32], number: u32) -> Option<Range<usize>> {
+        clause_range(file, number)
+    }
+
+    fn search(&mut self, file: &[u32], bound: u32, budget: u32, lent: Lent) -> Report {
+        search(file, bound, budget, lent.work, lent.proof, lent.answer)
+    }
+
+    fn check(&mut self, file: &[u32], offered: &[u32], bound: u32, lent: Lent) -> Report {
+        check(file, offered, bound, lent.work, lent.answer)
+    }
+}
