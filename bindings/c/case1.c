@@ -1,0 +1,46 @@
+/* Case 1 of document 01 through the C calls: at(e,mat) or at(e,eve); ask at(e,X). Ends with 0 where everything is as the document says. */
+#include "hukolearu.h"
+
+extern int puts(const char *);
+
+static uint32_t file[15] = {0xC0000602, 0x80002001, 0x40000001, 0x40000002, 0x80002001, 0x40000001, 0x40000003, 0xC0000309,
+                            0x8000A001, 0x40000001, 0x00000000, 7, 2, 0x1AE33758, 11};
+static uint32_t proof[199], answer[64], work[16384 + 1];
+
+static int same(const uint32_t *a, const uint32_t *b, size_t n)
+{
+    for (size_t i = 0; i < n; i++)
+        if (a[i] != b[i])
+            return 0;
+    return 1;
+}
+
+static int says(const char *what, int right)
+{
+    puts(what);
+    puts(right ? "  as it should be" : "  WRONG");
+    return !right;
+}
+
+int main(void)
+{
+    static const uint32_t steps[2] = {0x40000000, 0x40000001};
+    static const uint32_t words[6] = {0x80002001, 0x40000001, 0x40000002, 0x80002001, 0x40000001, 0x40000003};
+    int wrong = 0;
+
+    work[16384] = 0xA5A5A5A5;
+    struct hukolearu_outcome found = search(file, 15, 2, 3, proof, 199, answer, 64, work, 16385);
+    wrong |= says("search: found, 2 steps, 2 disjuncts, 6 words, 3 tries",
+                  found.status == HUKOLEARU_FOUND && found.place == 0 && found.proof == 2 && found.disjuncts == 2 && found.answer == 6
+                      && found.tries == 3 && same(proof, steps, 2) && same(answer, words, 6) && work[0] == 0 && work[16384] == 0xA5A5A5A5);
+
+    struct hukolearu_outcome checked = check_proof(file, 15, 2, proof, 2, answer, 64, work, 16384);
+    wrong |= says("check: accepted, tries 0", checked.status == HUKOLEARU_FOUND && checked.proof == 2 && checked.tries == 0 && same(answer, words, 6));
+
+    struct hukolearu_outcome none = search(file, 15, 1, 100, proof, 199, answer, 64, work, 16384);
+    wrong |= says("search, K = 1: none, 4 tries", none.status == HUKOLEARU_NONE && none.tries == 4);
+
+    struct hukolearu_outcome small = search(file, 15, 2, 3, proof, 199, answer, 64, work, 16383);
+    wrong |= says("search, 16,383 work words: refused", small.status == HUKOLEARU_WORK_TOO_SHORT);
+    return wrong;
+}

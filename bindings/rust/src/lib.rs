@@ -1,0 +1,86 @@
+//! The proved engine from safe Rust. The calls have no precondition: any lengths and any words are answered,
+//! so all that this wrapper adds is the room for the work words and slices of what was written.
+
+/// What comes back; numbers not named for a status are 0 (document 01, "What comes back").
+#[repr(C)]
+#[derive(Clone, Copy, Debug, PartialEq, Eq)]
+pub struct Outcome {
+    pub status: u32,
+    pub place: u32,
+    pub proof: u32,
+    pub disjuncts: u32,
+    pub answer: u32,
+    pub tries: u32,
+}
+
+pub const WORK_WORDS: usize = 16_384;
+pub const PROOF_WORDS: usize = 199;
+
+mod archive {
+    use super::Outcome;
+
+    extern "C" {
+        #[allow(clippy::too_many_arguments)]
+        pub fn search(
+            file: *const u32, file_words: usize, bound: u32, budget: u32, proof: *mut u32, proof_words: usize,
+            answer: *mut u32, answer_words: usize, work: *mut u32, work_words: usize,
+        ) -> Outcome;
+        pub fn check_proof(
+            file: *const u32, file_words: usize, bound: u32, offered: *const u32, offered_words: usize,
+            answer: *mut u32, answer_words: usize, work: *mut u32, work_words: usize,
+        ) -> Outcome;
+    }
+}
+
+/// Searches with lent buffers, exactly as document 01 has it.
+pub fn search(file: &[u32], bound: u32, budget: u32, proof: &mut [u32], answer: &mut [u32], work: &mut [u32]) -> Outcome {
+    // SAFETY: the slices are valid for their lengths and do not overlap, and the call reads and writes within them (proved).
+    unsafe {
+        archive::search(
+            file.as_ptr(), file.len(), bound, budget, proof.as_mut_ptr(), proof.len(),
+            answer.as_mut_ptr(), answer.len(), work.as_mut_ptr(), work.len(),
+        )
+    }
+}
+
+/// Checks an offered proof with lent buffers.
+pub fn check(file: &[u32], bound: u32, offered: &[u32], answer: &mut [u32], work: &mut [u32]) -> Outcome {
+    // SAFETY: as for `search`.
+    unsafe {
+        archive::check_proof(
+            file.as_ptr(), file.len(), bound, offered.as_ptr(), offered.len(),
+            answer.as_mut_ptr(), answer.len(), work.as_mut_ptr(), work.len(),
+        )
+    }
+}
+
+#[cfg(test)]
+mod tests {
+    use super::*;
+
+    const CASE_1: [u32; 15] = [
+        0xC0000602, 0x80002001, 0x40000001, 0x40000002, 0x80002001, 0x40000001, 0x40000003, 0xC0000309, 0x8000A001,
+        0x40000001, 0x00000000, 7, 2, 0x1AE33758, 11,
+    ];
+
+    #[test]
+    fn case_1_is_found_and_accepted() {
+        let (mut proof, mut answer, mut work) = ([9; PROOF_WORDS], [9; 8], vec![9; WORK_WORDS + 2]);
+        let found = search(&CASE_1, 2, 3, &mut proof, &mut answer, &mut work);
+        assert_eq!(found, Outcome { status: 0, place: 0, proof: 2, disjuncts: 2, answer: 6, tries: 3 });
+        assert_eq!(proof[..3], [0x40000000, 0x40000001, 9]);
+        assert_eq!(answer, [0x80002001, 0x40000001, 0x40000002, 0x80002001, 0x40000001, 0x40000003, 9, 9]);
+        assert!(work[..WORK_WORDS].iter().all(|&word| word == 0) && work[WORK_WORDS..] == [9, 9]);
+        let accepted = check(&CASE_1, 2, &proof[..2], &mut answer, &mut work);
+        assert_eq!(accepted, Outcome { tries: 0, ..found });
+    }
+
+    #[test]
+    fn short_buffers_are_refused_and_left_alone() {
+        let (mut proof, mut answer, mut work) = ([9; PROOF_WORDS], [9; 5], vec![9; WORK_WORDS]);
+        assert_eq!(search(&CASE_1, 2, 3, &mut proof[..198], &mut answer, &mut work).status, 2);
+        assert_eq!(search(&CASE_1, 2, 3, &mut proof, &mut answer, &mut work[1..]).status, 1);
+        assert_eq!(search(&CASE_1, 2, 3, &mut proof, &mut answer, &mut work), Outcome { status: 16, place: 0, proof: 0, disjuncts: 0, answer: 0, tries: 3 });
+        assert_eq!((proof, answer), ([9; PROOF_WORDS], [9; 5]));
+    }
+}
