@@ -1,4 +1,4 @@
-/* Hukolearu: the proved engine, for C. Link with libengine.a (`rt staticlib engine`), which is for x86-64 Linux.
+/* Hukolearu: the proved engine, for C. Link with libhukolearu.a (`rt staticlib hukolearu`), which is for x86-64 Linux.
  *
  * Every call is total: any lengths, any words. A length of 0 may come with any pointer that is not null.
  * Buffers are read and written as document 01 says:

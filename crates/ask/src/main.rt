@@ -1,8 +1,8 @@
 // Document 01's program: a question from standard input, and its answer.
 ghost use mathlib.Core.Path.{_≡_};
 ghost use lib.ListN.{length};
-use engine::Outcome;
-use engine::calls;
+use hukolearu::Outcome;
+use hukolearu::calls;
 use libc::STDIN_FILENO;
 use libc::STDOUT_FILENO;
 use text::part;

@@ -10,14 +10,14 @@ use Rattle.rules.specs.Play.{Play}
 use Rattle.rules.specs.Tableau.{Leaf}
 use Rattle.rules.proofs.Unify.Tests.{never}
 use Rattle.rules.proofs.Unify.Solution as bindings
-use Rattle.engine.specs.State.{startAt, copiesOf, countOf, trailAt, boundAt, wordsAt, termOf, Points, bindingsOf, bound}
-use Rattle.engine.specs.Good.{LiteralStands, Entry, Held, Good, Undone}
-use Rattle.engine.specs.Leaves.{leavesFrom, questionsAmong}
-use Rattle.engine.specs.Ready.{Noted, Ready, Stands, Later}
+use Rattle.unification.specs.State.{startAt, copiesOf, countOf, trailAt, boundAt, wordsAt, termOf, Points, bindingsOf, bound}
+use Rattle.unification.specs.Good.{LiteralStands, Entry, Held, Good, Undone}
+use Rattle.tableaux.specs.Leaves.{leavesFrom, questionsAmong}
+use Rattle.tableaux.specs.Ready.{Noted, Ready, Stands, Later}
 use Rattle.engine.specs.Searching.{Again}
-use Rattle.engine.specs.declared.tableau.Place.{Place}
-use Rattle.engine.proofs.Bound.{entry-small, free-same, unbound, bindings-length}
-use Rattle.engine.proofs.Leaves.{SameLeaves, leaves-same}
+use Rattle.tableaux.specs.declared.tableau.Place.{Place}
+use Rattle.unification.proofs.Bound.{entry-small, free-same, unbound, bindings-length}
+use Rattle.tableaux.proofs.Leaves.{SameLeaves, leaves-same}
 use Rattle.engine.proofs.Performed.{questions-same}
 
 -- what stays from one moment to the next, and to the one after it

@@ -11,9 +11,9 @@ use Rattle.words.specs.declared.Step.{Step}
 use Rattle.rules.specs.System.Run.{Result, found, no-way, search, one}
 use Rattle.rules.specs.Play.{Play, Performed, goes-on, perform, afterwards, onwards, checkFrom, plays}
 use Rattle.rules.proofs.System.Steps.{one-fails, one-found, one-no-way, one-ran-out}
-use Rattle.engine.specs.State.{copiesOf, countOf}
-use Rattle.engine.specs.Good.{Good, Undone}
-use Rattle.engine.specs.Ready.{Stands, Later}
+use Rattle.unification.specs.State.{copiesOf, countOf}
+use Rattle.unification.specs.Good.{Good, Undone}
+use Rattle.tableaux.specs.Ready.{Stands, Later}
 use Rattle.engine.specs.Performing.{Comes}
 use Rattle.engine.specs.Searching.{without, tableAt, questionAt, roomAt, Treats, stepBy, Onward, Takes, Restored, Again, Noting, Finds, Leaves, Tells, Treated, Attempted}
 use Rattle.engine.specs.declared.search.Ending.{Ending}
@@ -21,10 +21,10 @@ use Rattle.engine.specs.declared.search.Ending.the-variants.{Found, Noth
 use Rattle.engine.specs.declared.search.Move.{Move}
 use Rattle.engine.specs.declared.search.Searched.{Searched}
 use Rattle.engine.specs.declared.search.Task.{Task}
-use Rattle.engine.specs.declared.tableau.Place.{Place}
-use Rattle.engine.specs.declared.tableau.Taken.{Taken}
-use Rattle.engine.specs.declared.unify.Meeting.{Meeting}
-use Rattle.engine.specs.declared.unify.Meeting.the-variants.{Made, Clash, Circle}
+use Rattle.tableaux.specs.declared.tableau.Place.{Place}
+use Rattle.tableaux.specs.declared.tableau.Taken.{Taken}
+use Rattle.unification.specs.declared.unify.Meeting.{Meeting}
+use Rattle.unification.specs.declared.unify.Meeting.the-variants.{Made, Clash, Circle}
 use Rattle.engine.proofs.Again.{later-then, taken-back}
 
 -- no way, by an ending that is known

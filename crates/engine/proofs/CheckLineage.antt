@@ -8,11 +8,11 @@ use native.Mathlib.Omega.{arith}
 use lib.Dec.{eqb}
 use lib.ListN.{getElem?}
 use Rattle.rules.proofs.Lists.{none-some}
-use Rattle.engine.specs.State.{literalAt, parentAt}
-use Rattle.engine.specs.Leaves.{chain}
+use Rattle.unification.specs.State.{literalAt, parentAt}
+use Rattle.tableaux.specs.Leaves.{chain}
 use Rattle.engine.specs.Checking.{Upward, lineage, aboveOf}
 use Rattle.engine.specs.declared.check.Above.the-variants.{At, Nothing}
-use Rattle.engine.proofs.Chains.{chain-at, chain-past, chain-none}
+use Rattle.tableaux.proofs.Chains.{chain-at, chain-past, chain-none}
 
 -- how far the walk has come
 pub record Climbing (m : List ℕ) (head height at left : ℕ) : Type 0 where

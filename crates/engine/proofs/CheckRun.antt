@@ -7,22 +7,21 @@ use native.Mathlib.Omega.{arith}
 use borrow.Author.Tests.{eq-eqb}
 use lib.ListN.{length, drop, getD, drop-of-length-le}
 use Rattle.words.specs.Steps.{stepOf}
-use Rattle.table.specs.File.{judge}
+use Rattle.table.specs.File.{judge, tableIn}
 use Rattle.table.proofs.AcceptedTable.{body-readable, question-start}
 use Rattle.table.proofs.Terms.{from-place}
 use Rattle.rules.specs.Tableau.{start}
 use Rattle.rules.specs.Verdict.{malformed, not-allowed, not-unified, leaves-open}
 use Rattle.rules.specs.Play.{Play, begin, Performed, perform, atEnd, onwards, checkFrom, check}
-use Rattle.engine.specs.State.{markAt, ClauseAt, bindingsOf}
-use Rattle.engine.specs.Leaves.{leafAt, questionsAmong}
-use Rattle.engine.specs.State.{nextAt}
-use Rattle.engine.specs.Ready.{openLeaves, Ready, Begun}
-use Rattle.engine.specs.Calls.{tableIn}
+use Rattle.unification.specs.State.{markAt, ClauseAt, bindingsOf}
+use Rattle.tableaux.specs.Leaves.{leafAt, questionsAmong}
+use Rattle.unification.specs.State.{nextAt}
+use Rattle.tableaux.specs.Ready.{openLeaves, Ready, Begun}
 use Rattle.engine.specs.Checking.{statusFor, Moved, PlayAt, Says, Checked, AcceptedAs, RefusedAs}
-use Rattle.engine.specs.declared.tableau.Place.{Place}
+use Rattle.tableaux.specs.declared.tableau.Place.{Place}
 use Rattle.engine.specs.declared.check.Judged.{Judged}
 use Rattle.engine.specs.declared.check.Judged.the-variants.{On, Malformed, NotAllowed, Clashes, Circular}
-use Rattle.engine.proofs.Chains.{chain-none}
+use Rattle.tableaux.proofs.Chains.{chain-none}
 use Rattle.engine.proofs.Places.{question-placed}
 use Rattle.engine.proofs.Performed.{open-first}
 

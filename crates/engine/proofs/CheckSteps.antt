@@ -16,33 +16,32 @@ use Rattle.words.specs.declared.Step.{Step}
 use Rattle.words.specs.declared.Step.the-variants as step
 use Rattle.table.specs.Syntax.{Literal, literalUnder, Clause, Table, allClauses}
 use Rattle.table.specs.Decode.{clauseOf}
-use Rattle.table.specs.File.{bodyOf, judge}
+use Rattle.table.specs.File.{bodyOf, judge, tableIn}
 use Rattle.table.proofs.AcceptedTable.{body-readable, question-start}
 use Rattle.rules.specs.Substitution.{Variable}
 use Rattle.rules.specs.Tableau.{fresh, copyOf, fits, Leaf, Tableau, ancestor, reduced, entered, extended, treated, stepped}
 use Rattle.rules.specs.Verdict.{not-allowed}
 use Rattle.rules.specs.Play.{Play, Performed, not-possible, performed, perform, refusal}
 use Rattle.rules.proofs.Lists.{none-some, map-some}
-use Rattle.engine.specs.State.{copiesOf, literalAt, parentAt, nextAt, ownWords, literalAtReference}
-use Rattle.engine.specs.Good.{wordAt, Inside, LiteralStands}
-use Rattle.engine.specs.Leaves.{chain, literalOfLeaf, leafAt, leavesFrom}
-use Rattle.engine.specs.Ready.{Ready, leafOf, restOf, Reducible, Reduced, Extensible, Extended}
+use Rattle.unification.specs.State.{copiesOf, literalAt, parentAt, nextAt, ownWords, literalAtReference}
+use Rattle.unification.specs.Good.{wordAt, Inside, LiteralStands}
+use Rattle.tableaux.specs.Leaves.{chain, literalOfLeaf, leafAt, leavesFrom}
+use Rattle.tableaux.specs.Ready.{Ready, leafOf, restOf, Reducible, Reduced, Extensible, Extended}
 use Rattle.engine.specs.Performing.{Comes}
-use Rattle.engine.specs.Calls.{tableIn}
-use Rattle.engine.specs.Scanning.{EntryAt, IsEntry, otherSign, extensionAt, literalFrom, LiteralAt, Enters}
+use Rattle.tableaux.specs.Scanning.{EntryAt, IsEntry, otherSign, extensionAt, literalFrom, LiteralAt, Enters}
 use Rattle.engine.specs.Checking.{Upward, lineage, aboveOf, judgedBy, Moved, Moves, PlayAt, Says, Checked}
-use Rattle.engine.specs.declared.candidates.Scan.{Scan}
-use Rattle.engine.specs.declared.candidates.Candidate.{Candidate}
-use Rattle.engine.specs.declared.candidates.Candidate.the-variants.{Entry, Done}
-use Rattle.engine.specs.declared.tableau.Place.{Place}
-use Rattle.engine.specs.declared.tableau.Taken.{Taken}
-use Rattle.engine.specs.declared.unify.Meeting.{Meeting}
-use Rattle.engine.specs.declared.unify.Meeting.the-variants.{Made, Clash, Circle}
+use Rattle.tableaux.specs.declared.candidates.Scan.{Scan}
+use Rattle.tableaux.specs.declared.candidates.Candidate.{Candidate}
+use Rattle.tableaux.specs.declared.candidates.Candidate.the-variants.{Entry, Done}
+use Rattle.tableaux.specs.declared.tableau.Place.{Place}
+use Rattle.tableaux.specs.declared.tableau.Taken.{Taken}
+use Rattle.unification.specs.declared.unify.Meeting.{Meeting}
+use Rattle.unification.specs.declared.unify.Meeting.the-variants.{Made, Clash, Circle}
 use Rattle.engine.specs.declared.check.Above.{Above}
 use Rattle.engine.specs.declared.check.Above.the-variants.{At, Nothing}
 use Rattle.engine.specs.declared.check.Judged.{Judged}
 use Rattle.engine.specs.declared.check.Judged.the-variants.{Malformed, NotAllowed}
-use Rattle.engine.proofs.Chains.{chain-at, chain-none}
+use Rattle.tableaux.proofs.Chains.{chain-at, chain-none}
 use Rattle.engine.proofs.Fitting.{fits-by-word}
 use Rattle.engine.proofs.Sound.{owing-arity}
 use Rattle.engine.proofs.Entries.{entry-enters, entry-number, entry-clause, entry-literal, entry-none}

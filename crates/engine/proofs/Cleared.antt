@@ -6,11 +6,11 @@ use native.Mathlib.Omega.{arith}
 use lib.ListN.{length, take, drop, getD, replicate, length-append, length-drop, length-replicate, getD-replicate, List·getD-append, length-take}
 use lib.Seq.{getD-append-add, getD-take, getD-drop, length-take-le, ext-getD}
 use Rattle.rules.specs.Play.{Play}
-use Rattle.engine.specs.State.{startAt, copiesOf, countOf, trailAt, boundAt, markAt, bindingsOf, bound}
-use Rattle.engine.specs.Good.{Same, Held, Good}
-use Rattle.engine.specs.Leaves.{questionsAmong}
+use Rattle.unification.specs.State.{startAt, copiesOf, countOf, trailAt, boundAt, markAt, bindingsOf, bound}
+use Rattle.unification.specs.Good.{Same, Held, Good}
+use Rattle.tableaux.specs.Leaves.{questionsAmong}
 use Rattle.engine.specs.Ended.{Ended}
-use Rattle.engine.proofs.Stores.{Change, same-bindings, same-held}
+use Rattle.unification.proofs.Stores.{Change, same-bindings, same-held}
 use Rattle.engine.proofs.Performed.{questions-same}
 
 -- words cleared in the midst of others

@@ -15,18 +15,18 @@ use Rattle.table.specs.Syntax.{Literal}
 use Rattle.rules.specs.Order.{reductions}
 use Rattle.rules.specs.Substitution.{Variable}
 use Rattle.rules.specs.Tableau.{Leaf, fits, ancestor}
-use Rattle.engine.specs.State.{copiesOf, literalAt, parentAt, literalAtReference}
-use Rattle.engine.specs.Good.{wordAt, Inside, LiteralStands}
-use Rattle.engine.specs.Leaves.{literalOfLeaf, branchFrom}
-use Rattle.engine.specs.Ready.{Ready, Later, leafOf}
-use Rattle.engine.specs.Scanning.{otherSign}
+use Rattle.unification.specs.State.{copiesOf, literalAt, parentAt, literalAtReference}
+use Rattle.unification.specs.Good.{wordAt, Inside, LiteralStands}
+use Rattle.tableaux.specs.Leaves.{literalOfLeaf, branchFrom}
+use Rattle.tableaux.specs.Ready.{Ready, Later, leafOf}
+use Rattle.tableaux.specs.Scanning.{otherSign}
 use Rattle.engine.specs.Searching.{without, Treats, Wanted, leafTreated, Against, Again, Rowed, reductionsAt}
 use Rattle.engine.specs.declared.search.Ending.the-variants.{Nothing}
 use Rattle.engine.specs.declared.search.Searched.{Searched}
 use Rattle.engine.specs.declared.search.Task.{Task}
-use Rattle.engine.specs.declared.tableau.Place.{Place}
-use Rattle.engine.proofs.Chains.{chain-none}
-use Rattle.engine.proofs.Leaves.{literal-same, branch-same}
+use Rattle.tableaux.specs.declared.tableau.Place.{Place}
+use Rattle.tableaux.proofs.Chains.{chain-none}
+use Rattle.tableaux.proofs.Leaves.{literal-same, branch-same}
 use Rattle.engine.proofs.Performed.{chain-first, Literate, stands-literate, stands-inside, fits-at, fits-other}
 use Rattle.engine.proofs.Again.{same-leaves, stands-later}
 use Rattle.engine.proofs.Rows.{Rowing, rowing-begin, rowing-by, rowing-end}

@@ -20,12 +20,12 @@ use Rattle.table.proofs.Decoding.{from-literal, literals-literal, literals-othe
 use Rattle.rules.specs.Substitution.{Variable, Substitution}
 use Rattle.rules.specs.Tableau.{fresh, copyOf}
 use Rattle.rules.specs.Answer.{positive, disjunct}
-use Rattle.engine.specs.State.{startAt, copiesOf, ownWords, ClauseAt, wordsAt, Points}
-use Rattle.engine.specs.Good.{wordAt, Inside, Good}
+use Rattle.unification.specs.State.{startAt, copiesOf, ownWords, ClauseAt, wordsAt, Points}
+use Rattle.unification.specs.Good.{wordAt, Inside, Good}
 use Rattle.engine.specs.Writing.{Item, fixed, itemsOf, itemsAmong, itemsOfAll, itemsByKind, wordItems, wordsItems, unsigned, standing, WordStands}
-use Rattle.engine.proofs.Hanging.{own-small, own-inside, own-word}
-use Rattle.engine.proofs.TermLists.{arity-first, arity-rest, arity-under}
-use Rattle.engine.proofs.Words.{function-kind, from-variable, from-function}
+use Rattle.tableaux.proofs.Hanging.{own-small, own-inside, own-word}
+use Rattle.unification.proofs.TermLists.{arity-first, arity-rest, arity-under}
+use Rattle.unification.proofs.Words.{function-kind, from-variable, from-function}
 use Rattle.engine.proofs.Resolved.{function-stands}
 
 -- a word that was owed, and what is owed after it

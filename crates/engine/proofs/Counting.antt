@@ -7,13 +7,13 @@ use native.Mathlib.Omega.{arith}
 use Prim.Native.Nat.{ℕ, zero, suc, _+_, _*_, _-_, _/_, _≤_, _<_}
 use Rattle.words.specs.Fields.{kindOf, arityOf, followingOf}
 use Rattle.rules.specs.Substitution.{Substitution}
-use Rattle.engine.specs.State.{startAt, copiesOf, ownWords, ClauseAt, Points}
-use Rattle.engine.specs.Good.{wordAt, argumentsOf, Ahead, Inside, Good, FollowedTo}
+use Rattle.unification.specs.State.{startAt, copiesOf, ownWords, ClauseAt, Points}
+use Rattle.unification.specs.Good.{wordAt, argumentsOf, Ahead, Inside, Good, FollowedTo}
 use Rattle.engine.specs.Writing.{itemsByKind, wordItems, wordsItems, resolved, termItems, copyItems, questionItems, answerHeld, Counted, WordStands}
 use Rattle.engine.specs.declared.answer.Room.{Room}
 use Rattle.engine.specs.declared.answer.Room.the-variants.{Left, Over}
-use Rattle.engine.proofs.References.{few, step-points}
-use Rattle.engine.proofs.Walk.{inside, small}
+use Rattle.unification.proofs.References.{few, step-points}
+use Rattle.unification.proofs.Walk.{inside, small}
 use Rattle.engine.proofs.Items.{items-some}
 use Rattle.engine.proofs.CopyWords.{Reached, copy-count, copy-reached, offset-inside, offset-small, offset-reached, offset-stands, offset-items}
 use Rattle.engine.proofs.Questions.{question-there, question-other, items-grow, answer-length}

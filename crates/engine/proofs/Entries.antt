@@ -15,11 +15,11 @@ use Rattle.table.specs.Limits.{Words, Readable}
 use Rattle.table.proofs.BodyDecoding.{clauses-count}
 use Rattle.rules.specs.Substitution.{Variable}
 use Rattle.rules.specs.Order.{extensions}
-use Rattle.engine.specs.State.{ownWords}
-use Rattle.engine.specs.declared.candidates.Scan.{Scan}
-use Rattle.engine.specs.declared.candidates.Candidate.the-variants.{Done}
-use Rattle.engine.specs.Scanning.{begun, pastWord, entriesFrom, Standing, NextEntry, entryFrom, EntryAt, otherSign, extensionAt, extensionsFrom, offsetsOf, literalFrom, LiteralAt, Enters, Owes}
-use Rattle.engine.proofs.Scans.{past-at, standing-past}
+use Rattle.unification.specs.State.{ownWords}
+use Rattle.tableaux.specs.declared.candidates.Scan.{Scan}
+use Rattle.tableaux.specs.declared.candidates.Candidate.the-variants.{Done}
+use Rattle.tableaux.specs.Scanning.{begun, pastWord, entriesFrom, Standing, NextEntry, entryFrom, EntryAt, otherSign, extensionAt, extensionsFrom, offsetsOf, literalFrom, LiteralAt, Enters, Owes}
+use Rattle.tableaux.proofs.Scans.{past-at, standing-past}
 use Rattle.engine.proofs.Sound.{owing-arity}
 use Rattle.engine.proofs.Fitting.{other-kind}
 use Rattle.engine.proofs.Places.{table-clauses, some-length}

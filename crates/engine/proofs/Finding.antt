@@ -6,7 +6,7 @@ use native.Mathlib.Omega.{arith}
 use borrow.Author.Tests.{eq-eqb}
 use lib.ListN.{length, take, drop, getD, replicate}
 use Rattle.table.specs.Body.{lastOf, starts}
-use Rattle.table.specs.File.{judge}
+use Rattle.table.specs.File.{judge, tableIn}
 use Rattle.table.specs.Syntax.{Clause}
 use Rattle.table.proofs.Accepted.{accepted}
 use Rattle.table.proofs.AcceptedTable.{words-each, body-readable, question-start, accepted-within}
@@ -14,17 +14,16 @@ use Rattle.rules.specs.Play.{begin, check, plays, reported, searchFor}
 use Rattle.rules.specs.System.Run.{search}
 use Rattle.rules.specs.Tableau.{start, hang, copyOf}
 use Rattle.rules.proofs.Search.{any-depth-says, at-most-199-left}
-use Rattle.engine.specs.Calls.{tableIn}
 use Rattle.engine.specs.Ended as ended
-use Rattle.engine.specs.State.{startAt, copiesOf, ClauseAt, bindingsOf}
-use Rattle.engine.specs.Leaves.{questionsAmong}
-use Rattle.engine.specs.Ready.{openLeaves, Stands, Begun}
+use Rattle.unification.specs.State.{startAt, copiesOf, ClauseAt, bindingsOf}
+use Rattle.tableaux.specs.Leaves.{questionsAmong}
+use Rattle.tableaux.specs.Ready.{openLeaves, Stands, Begun}
 use Rattle.engine.specs.Searching.{questionAt, Asked, roomAt, Treats, Leaves, Tells, Treated, Ends}
 use Rattle.engine.specs.declared.search.Ending.{Ending}
 use Rattle.engine.specs.declared.search.Ending.the-variants.{Found, Nothing, Out}
 use Rattle.engine.specs.declared.search.Searched.{Searched}
 use Rattle.engine.specs.declared.search.Task.{Task}
-use Rattle.engine.specs.declared.tableau.Place.{Place}
+use Rattle.tableaux.specs.declared.tableau.Place.{Place}
 use Rattle.engine.proofs.Places.{question-placed}
 use Rattle.engine.proofs.Cleared.{part-same, cleared-length, cleared-before, cleared-ended}
 

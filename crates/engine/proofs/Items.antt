@@ -16,7 +16,7 @@ use Rattle.rules.specs.Answer.{occurring, occurringIn, occurringAll, seen, firs
 use Rattle.rules.proofs.Every.{map-append}
 use Rattle.rules.proofs.Unify.Tests.{never, same-refl}
 use Rattle.engine.specs.Writing.{Item, fixed, free, itemsOf, itemsAmong, itemsOfAll, also, wordsFrom, seenAfter}
-use Rattle.engine.proofs.TermLists.{arity-under, first-nil}
+use Rattle.unification.proofs.TermLists.{arity-under, first-nil}
 
 -- the word of an item under a numbering, and the variables of items
 wordBy : (Variable → ℕ) → Item → ℕ

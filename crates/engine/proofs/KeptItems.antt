@@ -8,12 +8,12 @@ use Rattle.table.specs.Syntax.{Terms, under, unders}
 use Rattle.table.specs.Decode.{first}
 use Rattle.rules.specs.Substitution.{Variable, Substitution}
 use Rattle.rules.specs.Unify.{solution}
-use Rattle.engine.specs.State.{copiesOf, countOf}
-use Rattle.engine.specs.Leaves.{questionsAmong}
-use Rattle.engine.specs.Good.{Same, Good, Ahead}
+use Rattle.unification.specs.State.{copiesOf, countOf}
+use Rattle.tableaux.specs.Leaves.{questionsAmong}
+use Rattle.unification.specs.Good.{Same, Good, Ahead}
 use Rattle.engine.specs.Writing.{itemsOf, itemsAmong, resolved, termItems, copyItems, answerHeld}
-use Rattle.engine.proofs.Bound.{Copied, kept-copied, kept-clauses, same-terms, same-points}
-use Rattle.engine.proofs.Stores.{Change, same-bindings, same-held}
+use Rattle.unification.proofs.Bound.{Copied, kept-copied, kept-clauses, same-terms, same-points}
+use Rattle.unification.proofs.Stores.{Change, same-bindings, same-held}
 
 module _ {f m m′ : List ℕ} (h : Good f m) (s : Same 0 1168 m m′) where
   starts : Same 0 34 m m′

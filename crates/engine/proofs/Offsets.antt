@@ -18,9 +18,9 @@ use Rattle.table.specs.Decode.{literalsFrom, clauseOf}
 use Rattle.table.proofs.Decoding.{literals-literal, literals-other}
 use Rattle.rules.proofs.Lists.{none-some}
 use Rattle.rules.proofs.Lists.{map-some}
-use Rattle.engine.specs.State.{ownWords, ClauseAt}
-use Rattle.engine.specs.Leaves.{literalOffsets, hangs, hanging}
-use Rattle.engine.specs.Scanning.{offsetsOf, literalFrom, LiteralAt, Owes}
+use Rattle.unification.specs.State.{ownWords, ClauseAt}
+use Rattle.tableaux.specs.Leaves.{literalOffsets, hangs, hanging}
+use Rattle.tableaux.specs.Scanning.{offsetsOf, literalFrom, LiteralAt, Owes}
 use Rattle.engine.proofs.Sound.{Sound, variable, function, literal, sound-word, nothing-owed, SoundClause, sound-clause}
 use Rattle.engine.proofs.Places.{place-word, place-next, place-inside}
 

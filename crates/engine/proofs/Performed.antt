@@ -21,23 +21,23 @@ use Rattle.rules.specs.Tableau.{Leaf, Tableau, atom, fits, ancestor, closing, c
 use Rattle.rules.specs.Unify.{Unified, made, unify}
 use Rattle.rules.specs.Play.{Play, boundBy, newest, performed, perform}
 use Rattle.rules.proofs.Steps.{reduces, extends, done, afterEntry}
-use Rattle.engine.specs.State.{startAt, copiesOf, nextAt, ownWords, wordsAt, literalAtReference, bound}
-use Rattle.engine.specs.Good.{wordAt, Inside, LiteralStands, Good, Outcome}
-use Rattle.engine.specs.Leaves.{chain, leafAt, leavesFrom, questionsAmong}
-use Rattle.engine.specs.Ready.{openLeaves, Ready, Stands, Alike, restOf, Reduced, Hung, Extended}
+use Rattle.unification.specs.State.{startAt, copiesOf, nextAt, ownWords, wordsAt, literalAtReference, bound}
+use Rattle.unification.specs.Good.{wordAt, Inside, LiteralStands, Good, Outcome}
+use Rattle.tableaux.specs.Leaves.{chain, leafAt, leavesFrom, questionsAmong}
+use Rattle.tableaux.specs.Ready.{openLeaves, Ready, Stands, Alike, restOf, Reduced, Hung, Extended}
 use Rattle.engine.specs.Performing.{Comes}
-use Rattle.engine.specs.Scanning.{Owes, LiteralAt, Enters, otherSign, extensionAt}
-use Rattle.engine.specs.declared.candidates.Scan.{Scan}
-use Rattle.engine.specs.declared.tableau.Place.{Place}
-use Rattle.engine.specs.declared.tableau.Taken.{Taken}
-use Rattle.engine.specs.declared.unify.Meeting.{Meeting}
-use Rattle.engine.specs.declared.unify.Meeting.the-variants.{Made, Clash, Circle}
-use Rattle.engine.proofs.Chains.{chain-at, chain-past}
+use Rattle.tableaux.specs.Scanning.{Owes, LiteralAt, Enters, otherSign, extensionAt}
+use Rattle.tableaux.specs.declared.candidates.Scan.{Scan}
+use Rattle.tableaux.specs.declared.tableau.Place.{Place}
+use Rattle.tableaux.specs.declared.tableau.Taken.{Taken}
+use Rattle.unification.specs.declared.unify.Meeting.{Meeting}
+use Rattle.unification.specs.declared.unify.Meeting.the-variants.{Made, Clash, Circle}
+use Rattle.tableaux.proofs.Chains.{chain-at, chain-past}
 use Rattle.engine.proofs.Fitting.{fits-by-word, other-word}
 use Rattle.engine.proofs.Sound.{Sound, literal, sound-word, nothing-owed, owing-arity}
 use Rattle.engine.proofs.Places.{place-word, place-inside}
-use Rattle.engine.proofs.Hanging.{own-inside, own-word}
-use Rattle.engine.proofs.Literals.{copy-entered, copy-others}
+use Rattle.tableaux.proofs.Hanging.{own-inside, own-word}
+use Rattle.tableaux.proofs.Literals.{copy-entered, copy-others}
 
 -- a chain from a head on: the head's item, and the chain from where it leads
 pub chain-first : {A : Type 0} (item : ℕ → A) (link : ℕ → ℕ) (n head : ℕ) → 0 < head → head ≤ n → link (head - 1) ≤ head - 1

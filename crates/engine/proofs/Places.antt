@@ -20,7 +20,7 @@ use Rattle.table.proofs.Positions.{wordsFrom, StandsAt, stands-at, clauses-by-s
 use Rattle.table.proofs.AcceptedTable.{same-words, sound-in-file}
 use Rattle.rules.proofs.Lists.{none-some}
 use Rattle.rules.proofs.Lists.{map-some}
-use Rattle.engine.specs.State.{ownWords, ClauseAt}
+use Rattle.unification.specs.State.{ownWords, ClauseAt}
 use Rattle.engine.proofs.Sound.{SoundClause}
 
 -- words that begin at a place of a list

@@ -17,8 +17,8 @@ use Rattle.rules.specs.Play.{Play, answerOf}
 use Rattle.rules.specs.Answer.{disjunct, disjuncts, joined, answerWords}
 use Rattle.rules.proofs.Every.{map-append}
 use Rattle.rules.proofs.Unify.Tests.{decide}
-use Rattle.engine.specs.State.{startAt, copiesOf, ownWords, ClauseAt, bound}
-use Rattle.engine.specs.Leaves.{questionsAmong}
+use Rattle.unification.specs.State.{startAt, copiesOf, ownWords, ClauseAt, bound}
+use Rattle.tableaux.specs.Leaves.{questionsAmong}
 use Rattle.engine.specs.Writing.{fixed, itemsAmong, itemsOfAll, wordsItems, wordsFrom, resolved, copyItems, questionItems, answerHeld}
 use Rattle.engine.proofs.Items.{answer-items, words-length}
 use Rattle.engine.proofs.CopyWords.{disjunct-items}

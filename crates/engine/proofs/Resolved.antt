@@ -11,14 +11,14 @@ use Rattle.table.specs.Syntax.{Term, Terms, arity, under, unders}
 use Rattle.table.specs.Decode.{first, rest}
 use Rattle.rules.specs.Substitution.{Variable, Substitution}
 use Rattle.rules.proofs.Unify.Solution.{unbound-solution, follow-solution}
-use Rattle.engine.specs.State.{termsOf, termOf, Points, variableOf, bound}
-use Rattle.engine.specs.Good.{wordAt, variableAt, argumentsOf, Ahead, Held, Good, FollowedTo}
+use Rattle.unification.specs.State.{termsOf, termOf, Points, variableOf, bound}
+use Rattle.unification.specs.Good.{wordAt, variableAt, argumentsOf, Ahead, Held, Good, FollowedTo}
 use Rattle.engine.specs.Writing.{Item, fixed, free, itemsOf, itemsAmong, itemsByKind, wordItems, standing, unsigned, resolved, termItems, WordStands}
-use Rattle.engine.proofs.TermLists.{first-under, rest-under, arity-under}
-use Rattle.engine.proofs.Words.{function-kind}
-use Rattle.engine.proofs.References.{points-fewer, tailOf, variable-copy, variable-terms, variable-term, function-shape, function-terms, function-term, function-arguments, function-arity, function-next, step-terms}
-use Rattle.engine.proofs.Walk.{few-variables}
-use Rattle.engine.proofs.Bound.{unbound}
+use Rattle.unification.proofs.TermLists.{first-under, rest-under, arity-under}
+use Rattle.unification.proofs.Words.{function-kind}
+use Rattle.unification.proofs.References.{points-fewer, tailOf, variable-copy, variable-terms, variable-term, function-shape, function-terms, function-term, function-arguments, function-arity, function-next, step-terms}
+use Rattle.unification.proofs.Walk.{few-variables}
+use Rattle.unification.proofs.Bound.{unbound}
 use Rattle.engine.proofs.Items.{items-first}
 
 pub no-items : (f m : List ℕ) (r : ℕ) → termItems f m r 0 ≡ []

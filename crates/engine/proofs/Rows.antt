@@ -9,14 +9,14 @@ use Rattle.rules.specs.System.{System}
 use Rattle.rules.specs.System.Run.{Result, found, no-way, ran-out, after, spend, inTurn, one, row}
 use Rattle.rules.specs.Play.{Play, plays}
 use Rattle.rules.proofs.System.Steps.{row-end, row-step, row-no-budget, row-found, row-goes-on, row-runs-out}
-use Rattle.engine.specs.Ready.{openLeaves, Ready, Stands}
+use Rattle.tableaux.specs.Ready.{openLeaves, Ready, Stands}
 use Rattle.engine.specs.Searching.{without, tableAt, questionAt, roomAt, Treats, stepBy, Again, Finds, Leaves, Tells, Attempted, Rowed}
 use Rattle.engine.specs.declared.search.Ending.{Ending}
 use Rattle.engine.specs.declared.search.Ending.the-variants.{Found, Nothing, Out}
 use Rattle.engine.specs.declared.search.Move.{Move}
 use Rattle.engine.specs.declared.search.Searched.{Searched}
 use Rattle.engine.specs.declared.search.Task.{Task}
-use Rattle.engine.specs.declared.tableau.Place.{Place}
+use Rattle.tableaux.specs.declared.tableau.Place.{Place}
 use Rattle.engine.proofs.Again.{open-stays, ready-again, stands-again, again-none, again-then}
 
 -- a row, and another after it

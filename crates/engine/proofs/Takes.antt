@@ -7,19 +7,19 @@ use borrow.Author.Tests.{lt-ltb}
 use lib.ListN.{length, getD, length-append, length-map}
 use Rattle.words.specs.Steps.{wellFormed, stepWord, encoded}
 use Rattle.rules.specs.Tableau.{Leaf, hang}
-use Rattle.engine.specs.State.{copiesOf}
-use Rattle.engine.specs.Good.{wordAt}
-use Rattle.engine.specs.Leaves.{leavesFrom}
-use Rattle.engine.specs.Ready.{openLeaves, leafOf, restOf, Alike, Reducible, Reduced, Extensible, Hung, Extended, hangingAt}
-use Rattle.engine.specs.Scanning.{Enters, extensionAt}
+use Rattle.unification.specs.State.{copiesOf}
+use Rattle.unification.specs.Good.{wordAt}
+use Rattle.tableaux.specs.Leaves.{leavesFrom}
+use Rattle.tableaux.specs.Ready.{openLeaves, leafOf, restOf, Alike, Reducible, Reduced, Extensible, Hung, Extended, hangingAt}
+use Rattle.tableaux.specs.Scanning.{Enters, extensionAt}
 use Rattle.engine.specs.Searching.{tableAt, questionAt, Treats, Wanted, Against, Allows, Onward, Takes}
-use Rattle.engine.specs.declared.candidates.Scan.{Scan}
+use Rattle.tableaux.specs.declared.candidates.Scan.{Scan}
 use Rattle.engine.specs.declared.search.Move.the-variants.{Reduce, Enter}
 use Rattle.engine.specs.declared.search.Task.{Task}
-use Rattle.engine.specs.declared.tableau.Place.{Place}
-use Rattle.engine.specs.declared.tableau.Taken.{Taken}
+use Rattle.tableaux.specs.declared.tableau.Place.{Place}
+use Rattle.tableaux.specs.declared.tableau.Taken.{Taken}
 use Rattle.engine.proofs.Performed.{open-first, Literate, stands-literate, copy-word, copy-literate, alike-other, fits-other, reduction-comes, extension-comes}
-use Rattle.engine.proofs.Literals.{hanging-fewer, clause-few}
+use Rattle.tableaux.proofs.Literals.{hanging-fewer, clause-few}
 use Rattle.engine.proofs.Entries.{clause-small, literal-small}
 
 module _ {f m : List ℕ} {task : Task} {place : Place} (treats : Treats f m task place) (some-open : 0 < place .head) where

@@ -19,21 +19,21 @@ use Rattle.rules.specs.Play.{Play, atEnd, checkFrom, allClosed, plays}
 use Rattle.rules.specs.System.Run.{Result, found, no-way, after, search, row}
 use Rattle.rules.specs.Tableau.{Leaf, fresh}
 use Rattle.rules.proofs.System.Steps.{search-done, search-open, row-end}
-use Rattle.engine.specs.State.{startAt, copiesOf, nextAt, wordsAt, literalAtReference}
-use Rattle.engine.specs.Good.{wordAt, Inside}
-use Rattle.engine.specs.Leaves.{leafAt}
-use Rattle.engine.specs.Ready.{openLeaves, Stands, leafOf}
-use Rattle.engine.specs.Scanning.{begun, pastWord, entriesFrom, Standing, NextEntry, otherSign, extensionAt, extensionsFrom}
+use Rattle.unification.specs.State.{startAt, copiesOf, nextAt, wordsAt, literalAtReference}
+use Rattle.unification.specs.Good.{wordAt, Inside}
+use Rattle.tableaux.specs.Leaves.{leafAt}
+use Rattle.tableaux.specs.Ready.{openLeaves, Stands, leafOf}
+use Rattle.tableaux.specs.Scanning.{begun, pastWord, entriesFrom, Standing, NextEntry, otherSign, extensionAt, extensionsFrom}
 use Rattle.engine.specs.Searching.{without, tableAt, questionAt, roomAt, Treats, Wanted, Allows, Again, Leaves, Tells, Treated, Rowed, reductionsAt, extensionsAt}
-use Rattle.engine.specs.declared.candidates.Scan.{Scan}
+use Rattle.tableaux.specs.declared.candidates.Scan.{Scan}
 use Rattle.engine.specs.declared.search.Ending.{Ending}
 use Rattle.engine.specs.declared.search.Ending.the-variants.{Found, Nothing, Out}
 use Rattle.engine.specs.declared.search.Move.the-variants.{Enter}
 use Rattle.engine.specs.declared.search.Searched.{Searched}
 use Rattle.engine.specs.declared.search.Task.{Task}
-use Rattle.engine.specs.declared.tableau.Place.{Place}
-use Rattle.engine.proofs.Chains.{chain-none}
-use Rattle.engine.proofs.Scans.{standing-begin}
+use Rattle.tableaux.specs.declared.tableau.Place.{Place}
+use Rattle.tableaux.proofs.Chains.{chain-none}
+use Rattle.tableaux.proofs.Scans.{standing-begin}
 use Rattle.engine.proofs.Entries.{extensions-begin, extensions-next, extensions-done, next-enters}
 use Rattle.engine.proofs.Performed.{open-first, Literate, stands-literate, stands-inside}
 use Rattle.engine.proofs.Again.{stands-again, again-then}

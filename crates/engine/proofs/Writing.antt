@@ -13,11 +13,11 @@ use Rattle.rules.specs.Substitution.{Variable}
 use Rattle.rules.specs.Unify.{sameVariable}
 use Rattle.rules.specs.Answer.{seen, placeOf}
 use Rattle.rules.proofs.Unify.Tests.{decide}
-use Rattle.engine.specs.State.{markAt, variableOf}
+use Rattle.unification.specs.State.{markAt, variableOf}
 use Rattle.engine.specs.Writing.{Item, fixed, free, wordsFrom, seenAfter, markOf, Seen, Remarked, Wrote}
 use Rattle.engine.specs.declared.answer.Written.{Written}
-use Rattle.engine.proofs.Bound.{variable-differs}
-use Rattle.engine.proofs.Push.{same-none, same-then}
+use Rattle.unification.proofs.Bound.{variable-differs}
+use Rattle.unification.proofs.Push.{same-none, same-then}
 use Rattle.engine.proofs.Items.{place-left, place-last, seen-last, seen-other, also-known, also-new, words-length, words-append, seen-append}
 
 -- stores one after the other

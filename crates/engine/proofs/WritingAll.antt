@@ -8,9 +8,9 @@ use native.Mathlib.Numerals.{add-one}
 use native.Mathlib.Omega.{arith}
 use Prim.Native.Nat.{ℕ, suc, _+_, _≤_, _<_}
 use Rattle.rules.specs.Answer.{seen}
-use Rattle.engine.specs.State.{startAt, copiesOf, ClauseAt}
-use Rattle.engine.specs.Good.{Good}
-use Rattle.engine.specs.Leaves.{questionsAmong}
+use Rattle.unification.specs.State.{startAt, copiesOf, ClauseAt}
+use Rattle.unification.specs.Good.{Good}
+use Rattle.tableaux.specs.Leaves.{questionsAmong}
 use Rattle.engine.specs.Writing.{Item, wordsFrom, copyItems, questionItems, answerHeld, markOf, Seen, Remarked, Unmarked, RoomFor, Wrote, Answered}
 use Rattle.engine.specs.declared.answer.Written.{Written}
 use Rattle.engine.specs.declared.answer.Answer.{Answer}

@@ -6,12 +6,12 @@ use native.Mathlib.Omega.{arith}
 use Prim.Native.Nat.{ℕ, zero, suc, _+_, _*_, _-_, _/_, _^_, _≤_, _<_}
 use Rattle.words.specs.Fields.{kindOf, arityOf, signOf, followingOf}
 use Rattle.rules.specs.Substitution.{Substitution}
-use Rattle.engine.specs.State.{startAt, copiesOf, ownWords, variableOf}
-use Rattle.engine.specs.Good.{wordAt, variableAt, argumentsOf, Ahead, Inside, Same, Good, FollowedTo}
+use Rattle.unification.specs.State.{startAt, copiesOf, ownWords, variableOf}
+use Rattle.unification.specs.Good.{wordAt, variableAt, argumentsOf, Ahead, Inside, Same, Good, FollowedTo}
 use Rattle.engine.specs.Writing.{Item, fixed, free, itemsByKind, wordItems, wordsItems, standing, resolved, termItems, copyItems, WordStands, Remarked, RoomFor, Wrote}
 use Rattle.engine.specs.declared.answer.Written.{Written}
-use Rattle.engine.proofs.References.{variable-copy}
-use Rattle.engine.proofs.Walk.{few-variables}
+use Rattle.unification.proofs.References.{variable-copy}
+use Rattle.unification.proofs.Walk.{few-variables}
 use Rattle.engine.proofs.Resolved.{no-items, stands-free, stands-function, stands-ahead, stands-word}
 use Rattle.engine.proofs.CopyWords.{Reached, copy-count, copy-reached, offset-inside, offset-small, offset-reached, offset-stands, offset-items}
 use Rattle.engine.proofs.Counting.{owed-ahead, owed-items}

@@ -6,17 +6,16 @@ use Prim.Native.Nat.{ℕ, _+_, _≤_, _<_}
 use lib.ListN.{length}
 use Rattle.words.specs.Steps.{stepOf}
 use Rattle.words.specs.declared.Step.{Step}
-use Rattle.table.specs.File.{judge}
+use Rattle.table.specs.File.{judge, tableIn}
 use Rattle.rules.specs.Verdict.{Refusal, malformed, not-allowed, statusOf}
 use Rattle.rules.specs.Play.{Play, Performed, goes-on, not-possible, clashes, circular, perform, refusal, passed, stopped, check}
-use Rattle.engine.specs.State.{markAt, literalAt, parentAt}
-use Rattle.engine.specs.Leaves.{chain}
-use Rattle.engine.specs.Ready.{Ready, Stands}
+use Rattle.unification.specs.State.{markAt, literalAt, parentAt}
+use Rattle.tableaux.specs.Leaves.{chain}
+use Rattle.tableaux.specs.Ready.{Ready, Stands}
 use Rattle.engine.specs.Ended.{Ended}
-use Rattle.engine.specs.Calls.{tableIn}
-use Rattle.engine.specs.declared.tableau.Place.{Place}
-use Rattle.engine.specs.declared.unify.Meeting.{Meeting}
-use Rattle.engine.specs.declared.unify.Meeting.the-variants.{Made, Clash, Circle}
+use Rattle.tableaux.specs.declared.tableau.Place.{Place}
+use Rattle.unification.specs.declared.unify.Meeting.{Meeting}
+use Rattle.unification.specs.declared.unify.Meeting.the-variants.{Made, Clash, Circle}
 use Rattle.engine.specs.declared.check.Above.{Above}
 use Rattle.engine.specs.declared.check.Above.the-variants.{At, Nothing}
 use Rattle.engine.specs.declared.check.Judged.{Judged}

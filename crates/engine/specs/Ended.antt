@@ -8,9 +8,9 @@ use Rattle.words.specs.declared.Step.{Step}
 use Rattle.table.specs.Syntax.{Table}
 use Rattle.rules.specs.Verdict.{finds}
 use Rattle.rules.specs.Play.{Play, passed, check, searchFor}
-use Rattle.engine.specs.State.{copiesOf, markAt, bound}
-use Rattle.engine.specs.Good.{Good}
-use Rattle.engine.specs.Leaves.{questionsAmong}
+use Rattle.unification.specs.State.{copiesOf, markAt, bound}
+use Rattle.unification.specs.Good.{Good}
+use Rattle.tableaux.specs.Leaves.{questionsAmong}
 
 -- the play that has come to its end: its bindings and its copies of the question; no variable is numbered yet
 pub record Ended (f m : List ℕ) (question : ℕ) (p : Play) : Type 0 where

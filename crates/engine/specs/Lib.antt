@@ -1,15 +1,5 @@
-pub mod Calls
-pub mod Says
-pub mod CallDemands
-pub mod State
-pub mod Scanning
-pub mod Leaves
-pub mod Good
 pub mod Writing
-pub mod Ready
 pub mod Performing
 pub mod Ended
 pub mod Checking
 pub mod Searching
-pub mod Telling
-pub mod Thorough

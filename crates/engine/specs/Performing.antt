@@ -3,10 +3,10 @@ use mathlib.Core.List.{List}
 use mathlib.Core.Path.{_≡_}
 use Prim.Native.Nat.{ℕ}
 use Rattle.rules.specs.Play.{Play, Performed, goes-on, clashes, circular}
-use Rattle.engine.specs.Ready.{Stands}
-use Rattle.engine.specs.declared.tableau.Place.{Place}
-use Rattle.engine.specs.declared.unify.Meeting.{Meeting}
-use Rattle.engine.specs.declared.unify.Meeting.the-variants.{Made, Clash, Circle}
+use Rattle.tableaux.specs.Ready.{Stands}
+use Rattle.tableaux.specs.declared.tableau.Place.{Place}
+use Rattle.unification.specs.declared.unify.Meeting.{Meeting}
+use Rattle.unification.specs.declared.unify.Meeting.the-variants.{Made, Clash, Circle}
 
 -- what performing a step comes to, by how its pair met: on to a play that the work words stand for, or to a failure
 abbrev pub Comes : List ℕ → List ℕ → ℕ → Place → Meeting → Performed → Type 0

@@ -16,23 +16,23 @@ use Rattle.rules.specs.Play.{Play, passed, perform, checkFrom, plays, searchFor
 use Rattle.rules.specs.System.Run.{Result, found, no-way, ran-out, search, one, row}
 use Rattle.rules.specs.Tableau.{Leaf, ancestor}
 use Rattle.rules.specs.Verdict.{finds-none, runs-out}
-use Rattle.engine.specs.Calls.{tableIn}
+use Rattle.table.specs.File.{tableIn}
 use Rattle.engine.specs.Ended as ended
-use Rattle.engine.specs.State.{copiesOf, countOf, stepAt, literalAtReference, bound}
-use Rattle.engine.specs.Good.{wordAt, LiteralStands, Good, Undone}
-use Rattle.engine.specs.Leaves.{leafAt, questionsAmong}
-use Rattle.engine.specs.Ready.{openLeaves, Ready, Stands, Later, leafOf}
+use Rattle.unification.specs.State.{copiesOf, countOf, stepAt, literalAtReference, bound}
+use Rattle.unification.specs.Good.{wordAt, LiteralStands, Good, Undone}
+use Rattle.tableaux.specs.Leaves.{leafAt, questionsAmong}
+use Rattle.tableaux.specs.Ready.{openLeaves, Ready, Stands, Later, leafOf}
 use Rattle.engine.specs.Performing.{Comes}
-use Rattle.engine.specs.Scanning.{Enters, otherSign, extensionAt}
+use Rattle.tableaux.specs.Scanning.{Enters, otherSign, extensionAt}
 use Rattle.engine.specs.declared.search.Ending.{Ending}
 use Rattle.engine.specs.declared.search.Ending.the-variants.{Found, Nothing, Out}
 use Rattle.engine.specs.declared.search.Move.{Move}
 use Rattle.engine.specs.declared.search.Move.the-variants.{Reduce, Enter}
 use Rattle.engine.specs.declared.search.Searched.{Searched}
 use Rattle.engine.specs.declared.search.Task.{Task}
-use Rattle.engine.specs.declared.tableau.Place.{Place}
-use Rattle.engine.specs.declared.tableau.Taken.{Taken}
-use Rattle.engine.specs.declared.unify.Meeting.the-variants.{Made}
+use Rattle.tableaux.specs.declared.tableau.Place.{Place}
+use Rattle.tableaux.specs.declared.tableau.Taken.{Taken}
+use Rattle.unification.specs.declared.unify.Meeting.the-variants.{Made}
 
 -- the table and the question that are searched
 abbrev pub tableAt : List ℕ → Task → Table

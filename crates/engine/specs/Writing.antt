@@ -13,9 +13,9 @@ use Rattle.table.specs.Decode.{first, clauseOf}
 use Rattle.rules.specs.Substitution.{Variable, Substitution}
 use Rattle.rules.specs.Unify.{solution}
 use Rattle.rules.specs.Answer.{disjunct, seen, placeOf, numbered, joined}
-use Rattle.engine.specs.State.{startAt, copiesOf, markAt, ownWords, termsOf, Points, variableOf, bound}
-use Rattle.engine.specs.Leaves.{questionsAmong}
-use Rattle.engine.specs.Good.{wordAt, Same}
+use Rattle.unification.specs.State.{startAt, copiesOf, markAt, ownWords, termsOf, Points, variableOf, bound}
+use Rattle.tableaux.specs.Leaves.{questionsAmong}
+use Rattle.unification.specs.Good.{wordAt, Same}
 use Rattle.engine.specs.declared.answer.Room.{Room}
 use Rattle.engine.specs.declared.answer.Room.the-variants.{Left, Over}
 use Rattle.engine.specs.declared.answer.Written.{Written}

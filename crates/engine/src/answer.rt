@@ -1,29 +1,29 @@
 // The answer: counted up to its buffer before anything is written.
-use crate::memory;
-use crate::terms;
+use unification::memory;
+use unification::terms;
 use words::fields;
 ghost use mathlib.Core.Path.{_≡_};
 ghost use mathlib.Core.List.{List, [], _∷_};
 ghost use Prim.Native.Nat.{ℕ, _/_, min, _≤_, _<_};
 ghost use lib.ListN.{length};
-ghost use Rattle.engine.specs.State.{copiesOf, ClauseAt, variableOf};
-ghost use Rattle.engine.specs.Good.{Good, Ahead};
+ghost use Rattle.unification.specs.State.{copiesOf, ClauseAt, variableOf};
+ghost use Rattle.unification.specs.Good.{Good, Ahead};
 ghost use Rattle.engine.specs.Writing.{fixed, free, wordItems, termItems, copyItems, resolved, answerHeld};
 ghost use Rattle.engine.specs.Writing.{Counted, WordStands, RoomFor, Wrote, Unmarked, Answered};
 
-pub(crate) enum Room {
+pub enum Room {
     Left(usize),
     Over,
 }
 
 // How much of the answer is written, and how many variables are numbered.
-pub(crate) struct Written {
+pub struct Written {
     pub words: usize,
     pub numbered: u32,
 }
 
 // The words and disjuncts of an answer.
-pub(crate) struct Answer {
+pub struct Answer {
     pub words: u32,
     pub disjuncts: u32,
 }
@@ -91,7 +91,7 @@ fn room_after_copy(file: &[u32], work: &[u32], copy: u32, room: usize) -> Room
 }
 
 // The room left after the answer.
-pub(crate) fn room_after(file: &[u32], work: &[u32], question: u32, room: usize) -> Room
+pub fn room_after(file: &[u32], work: &[u32], question: u32, room: usize) -> Room
     requires { ⌜ Good (now file) (now work) × ClauseAt (now file) question ⌝ }
     ensures { λ r. ⌜ Counted room (length (answerHeld (now (file .entry)) (now (work .entry)) question)) r ⌝ }
 {
@@ -224,7 +224,7 @@ fn write_copy(
 }
 
 // The answer, for which there is room: one disjunct for each copy of the question, in order.
-pub(crate) fn write(file: &[u32], work: &mut [u32], answer: &mut [u32], question: u32) -> Answer
+pub fn write(file: &[u32], work: &mut [u32], answer: &mut [u32], question: u32) -> Answer
     requires { ⌜ Good (now file) (now work) × ClauseAt (now file) question × Unmarked (now work) ⌝ }
     requires { ⌜ (length (answerHeld (now file) (now work) question) ≤ length (now answer)) × (length (answerHeld (now file) (now work) question) ≤ 4294967295) ⌝ }
     ensures { λ r. ⌜ Answered (now (file .entry)) (now (work .entry)) (now (answer .entry)) question (now (work .exit)) (now (answer .exit)) r ⌝ }

@@ -1,11 +1,11 @@
 // The checker: an offered proof, step by step.
-use crate::candidates;
-use crate::candidates::Candidate;
-use crate::memory;
-use crate::tableau;
-use crate::tableau::Place;
-use crate::tableau::Taken;
-use crate::unify::Meeting;
+use tableaux::candidates;
+use tableaux::candidates::Candidate;
+use tableaux::tableau;
+use tableaux::tableau::Place;
+use tableaux::tableau::Taken;
+use unification::memory;
+use unification::unify::Meeting;
 use words::Step;
 use words::fields;
 ghost use mathlib.Core.Path.{_≡_};
@@ -13,13 +13,13 @@ ghost use Prim.Native.Nat.{ℕ, _-_, _≤_, _<_};
 ghost use lib.ListN.{length, getElem?};
 ghost use Rattle.words.specs.Steps.{stepOf};
 ghost use Rattle.table.specs.File.{judge};
-ghost use Rattle.engine.specs.Good.{wordAt};
-ghost use Rattle.engine.specs.Ready.{Ready, leafOf};
-ghost use Rattle.engine.specs.Scanning.{otherSign};
+ghost use Rattle.unification.specs.Good.{wordAt};
+ghost use Rattle.tableaux.specs.Ready.{Ready, leafOf};
+ghost use Rattle.tableaux.specs.Scanning.{otherSign};
 ghost use Rattle.engine.specs.Checking.{Upward, lineage, aboveOf, judgedBy, statusFor, Checked, Decided};
 
 // What becomes of a step: the tableau goes on, or the step is malformed, not allowed, or its pair does not unify with what is bound.
-pub(crate) enum Judged {
+pub enum Judged {
     On(Place),
     Malformed,
     NotAllowed,
@@ -28,12 +28,12 @@ pub(crate) enum Judged {
 }
 
 // The reference of an ancestor's literal.
-pub(crate) enum Above {
+pub enum Above {
     At(u32),
     Nothing,
 }
 
-pub(crate) enum Verdict {
+pub enum Verdict {
     // The number of steps.
     Accepted(u32),
     // The status, and the place.
@@ -167,13 +167,7 @@ fn status(judged: Judged) -> u32
     }
 }
 
-pub(crate) fn run(
-    file: &[u32],
-    work: &mut [u32],
-    question: u32,
-    bound: u32,
-    offered: &[u32],
-) -> Verdict
+pub fn run(file: &[u32], work: &mut [u32], question: u32, bound: u32, offered: &[u32]) -> Verdict
     requires { ⌜ (length (now work) ≡ 16384) × (judge (now file) .status ≡ 0) × (question ≡ judge (now file) .question) × (bound ≤ 32) ⌝ }
     ensures { λ r. ⌜ Decided (now (file .entry)) (now (work .exit)) question bound (now (offered .entry)) r ⌝ }
 {

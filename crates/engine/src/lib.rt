@@ -1,21 +1,4 @@
-// The engine: checker, search and answer on lent words.
-mod answer;
-pub mod calls;
-mod candidates;
-mod check;
-mod memory;
-mod search;
-mod tableau;
-mod terms;
-mod unify;
-
-// What every search and every check of a proof returns; numbers not named are 0.
-#[repr(C)]
-pub struct Outcome {
-    pub status: u32,
-    pub place: u32,
-    pub proof: u32,
-    pub disjuncts: u32,
-    pub answer: u32,
-    pub tries: u32,
-}
+// Search, checker and answer on lent words.
+pub mod answer;
+pub mod check;
+pub mod search;

@@ -1,13 +1,13 @@
 // Depth-first search in the stated order.
-use crate::candidates;
-use crate::candidates::Candidate;
-use crate::candidates::Scan;
-use crate::memory;
-use crate::tableau;
-use crate::tableau::Place;
-use crate::tableau::Taken;
-use crate::unify;
-use crate::unify::Meeting;
+use tableaux::candidates;
+use tableaux::candidates::Candidate;
+use tableaux::candidates::Scan;
+use tableaux::tableau;
+use tableaux::tableau::Place;
+use tableaux::tableau::Taken;
+use unification::memory;
+use unification::unify;
+use unification::unify::Meeting;
 use words::Step;
 use words::fields;
 use words::steps;
@@ -16,30 +16,30 @@ ghost use mathlib.Core.Path.{_≡_};
 ghost use Prim.Native.Nat.{ℕ, _≤_, _<_, _-_};
 ghost use lib.ListN.{length};
 ghost use Rattle.table.specs.File.{judge};
-ghost use Rattle.engine.specs.State.{copiesOf, countOf};
-ghost use Rattle.engine.specs.Good.{Good};
+ghost use Rattle.unification.specs.State.{copiesOf, countOf};
+ghost use Rattle.unification.specs.Good.{Good};
 ghost use Rattle.engine.specs.Searching.{without, Treats, Wanted, Allows, Takes, Restored, Treated, Attempted, Rowed, reductionsAt, extensionsAt, Ends};
 
 // What a search goes by: how many words of the file are the body, and the bound.
-pub(crate) struct Task {
+pub struct Task {
     pub body: u32,
     pub bound: u32,
 }
 
 // A candidate of a leaf: the reference of an ancestor's literal, and its height; or where a literal is entered.
-pub(crate) enum Move {
+pub enum Move {
     Reduce(u32, u32),
     Enter(Scan),
 }
 
-pub(crate) enum Ending {
+pub enum Ending {
     Found,
     Nothing,
     Out,
 }
 
 // How a search ended, the tries left of its budget, and the steps of what it found.
-pub(crate) struct Searched {
+pub struct Searched {
     pub ending: Ending,
     pub left: u32,
     pub steps: u32,
@@ -206,13 +206,7 @@ fn treat(file: &[u32], work: &mut [u32], task: Task, place: Place, left: u32) ->
 }
 
 // A closed tableau for the question within the bound, if the budget lasts; its steps stand among the work words, and no variable is numbered yet.
-pub(crate) fn find(
-    file: &[u32],
-    work: &mut [u32],
-    question: u32,
-    bound: u32,
-    budget: u32,
-) -> Searched
+pub fn find(file: &[u32], work: &mut [u32], question: u32, bound: u32, budget: u32) -> Searched
     requires { ⌜ (length (now work) ≡ 16384) × (judge (now file) .status ≡ 0) × (question ≡ judge (now file) .question) × (bound ≤ 32) ⌝ }
     ensures { λ r. ⌜ Ends (r .ending) (now (file .entry)) (now (work .exit)) question bound budget r ⌝ }
 {

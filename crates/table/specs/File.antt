@@ -10,11 +10,17 @@ use denote.Ref.{RefT, now}
 use Rattle.words.specs.Fields.{followingOf}
 use Rattle.words.specs.Fingerprint.{fingerprint}
 use Rattle.table.specs.Body.{bodyFault, starts, lastOf, anyPositive}
+use Rattle.table.specs.Decode.{tableOf}
+use Rattle.table.specs.Syntax.{Table}
 use Rattle.table.specs.declared.Judgement.{Judgement}
 
 -- a body, then a four-word trailer: (0) position of the question's clause word, (1) number of clauses, (2) fingerprint, (3) body length
 abbrev pub bodyOf : List ℕ → List ℕ
 bodyOf file = take (length file - 4) file
+
+-- the clauses that a file holds
+abbrev pub tableIn : List ℕ → Table
+tableIn file = tableOf (bodyOf file)
 
 abbrev pub trailer : List ℕ → ℕ → ℕ
 trailer file k = getD file (length file - 4 + k) 0

@@ -10,15 +10,15 @@ use Rattle.engine.proofs.answer.+room_after_terms+room_after_word.Lts-r
 use Rattle.engine.proofs.answer.room_after_word.Reads as room-after-word
 use Rattle.engine.proofs.answer.room_after_word.Kinds as room-after-word-kinds
 use Rattle.engine.proofs.answer.+room_after_terms+room_after_word.Lts-room_after_word as room-after-word-lts
-use Rattle.engine.proofs.memory.word_at.Reads as word-at-reads
-use Rattle.engine.proofs.terms.follow.Reads as follow-reads
-use Rattle.engine.proofs.terms.owed_after.Reads as owed-after-reads
+use Rattle.unification.proofs.memory.word_at.Reads as word-at-reads
+use Rattle.unification.proofs.terms.follow.Reads as follow-reads
+use Rattle.unification.proofs.terms.owed_after.Reads as owed-after-reads
 use Rattle.words.proofs.fields.arity.Reads as arity-reads
 use Rattle.words.proofs.fields.kind.Reads as kind-reads
 use Rattle.engine.proofs.answer.+room_after_terms+room_after_word.{statement}
 use Rattle.engine.proofs.answer.+room_after_terms+room_after_word.Tie.{close}
 use Rattle.engine.proofs.Counting.{Counting, counting-laws, owed-inside, owed-few, owed-small, owed-stands, word-points, room-ahead}
-use Rattle.engine.proofs.Walk.{inside, small}
+use Rattle.unification.proofs.Walk.{inside, small}
 
 ruleset all = (needs, counting-laws)
 

@@ -14,17 +14,17 @@ use Rattle.engine.proofs.answer.write_word.Kinds as write-word-kinds
 use Rattle.engine.proofs.answer.+write_terms+write_word.Lts-write_word as write-word-lts
 use Rattle.engine.proofs.answer.put.Reads as put-reads
 use Rattle.engine.proofs.answer.write_variable.Reads as write-variable-reads
-use Rattle.engine.proofs.memory.variable_at.Reads as variable-at-reads
-use Rattle.engine.proofs.memory.word_at.Reads as word-at-reads
-use Rattle.engine.proofs.terms.follow.Reads as follow-reads
-use Rattle.engine.proofs.terms.owed_after.Reads as owed-after-reads
+use Rattle.unification.proofs.memory.variable_at.Reads as variable-at-reads
+use Rattle.unification.proofs.memory.word_at.Reads as word-at-reads
+use Rattle.unification.proofs.terms.follow.Reads as follow-reads
+use Rattle.unification.proofs.terms.owed_after.Reads as owed-after-reads
 use Rattle.words.proofs.fields.arity.Reads as arity-reads
 use Rattle.words.proofs.fields.kind.Reads as kind-reads
 use Rattle.words.proofs.fields.sign.Reads as sign-reads
 use Rattle.engine.proofs.answer.+write_terms+write_word.{statement}
 use Rattle.engine.proofs.answer.+write_terms+write_word.Tie.{close}
 use Rattle.engine.specs.Writing.{wordItems, termItems, resolved}
-use Rattle.engine.proofs.Walk.{inside, small}
+use Rattle.unification.proofs.Walk.{inside, small}
 use Rattle.engine.proofs.Counting.{owed-inside, owed-few, owed-small, owed-stands, word-points}
 use Rattle.engine.proofs.WritingTerms.{Writing, writing-begin, writing-less, writing-room, writing-on, writing-done, room-left, room-right, write-item, write-free, write-small, write-function, write-ahead}
 use Rattle.engine.proofs.Writing.{wrote-then}

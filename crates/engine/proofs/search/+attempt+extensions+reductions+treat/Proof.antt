@@ -9,16 +9,16 @@ use mathlib.Core.Logic.{_⊎_, inl, inr}
 use mathlib.Core.Path.{_≡_, refl, sym, subst, _∙_}
 use native.Mathlib.Omega.{arith}
 use Prim.Native.Nat.{ℕ, _+_, _*_, _<_}
-use Rattle.engine.specs.Scanning.{extensionsFrom, Standing, IsNext}
+use Rattle.tableaux.specs.Scanning.{extensionsFrom, Standing, IsNext}
 use Rattle.engine.specs.Searching.{roomAt, reductionsAt, extensionsAt}
-use Rattle.engine.specs.declared.candidates.Scan.{Scan}
+use Rattle.tableaux.specs.declared.candidates.Scan.{Scan}
 use Rattle.engine.specs.declared.search.Ending.{Ending}
 use Rattle.engine.specs.declared.search.Ending.the-variants.{Found, Nothing, Out}
 use Rattle.engine.specs.declared.search.Move.the-variants.{Reduce, Enter}
-use Rattle.engine.specs.declared.unify.Meeting.{Meeting}
-use Rattle.engine.specs.declared.unify.Meeting.the-variants.{Made, Clash, Circle}
+use Rattle.unification.specs.declared.unify.Meeting.{Meeting}
+use Rattle.unification.specs.declared.unify.Meeting.the-variants.{Made, Clash, Circle}
 use Rattle.engine.proofs.search.Ending.{enum as ending}
-use Rattle.engine.proofs.unify.Meeting.{enum as meeting}
+use Rattle.unification.proofs.unify.Meeting.{enum as meeting}
 use Rattle.engine.proofs.Entries.{next-onward}
 use Rattle.engine.proofs.Rows.{room-again, treats-again, Rowing, rowing-by, rowing-out, rowing-ended, rowing-on}
 use Rattle.engine.proofs.Attempts.{attempt-restores, attempt-failed, attempt-treats, attempt-falls, attempt-ended, attempt-good-below, attempt-restores-below, attempt-none}
@@ -36,16 +36,16 @@ use Rattle.engine.proofs.search.+attempt+extensions+reductions+treat.Lt
 use Rattle.engine.proofs.search.treat.Reads as treat
 use Rattle.engine.proofs.search.treat.Kinds as treat-kinds
 use Rattle.engine.proofs.search.+attempt+extensions+reductions+treat.Lts-treat as treat-lts
-use Rattle.engine.proofs.candidates.beginning.Reads as beginning
-use Rattle.engine.proofs.candidates.next.Reads as next
-use Rattle.engine.proofs.candidates.other_sign.Reads as other-sign
-use Rattle.engine.proofs.candidates.past.Reads as past
-use Rattle.engine.proofs.memory.word_at.Reads as word-at
+use Rattle.tableaux.proofs.candidates.beginning.Reads as beginning
+use Rattle.tableaux.proofs.candidates.next.Reads as next
+use Rattle.tableaux.proofs.candidates.other_sign.Reads as other-sign
+use Rattle.tableaux.proofs.candidates.past.Reads as past
+use Rattle.unification.proofs.memory.word_at.Reads as word-at
 use Rattle.engine.proofs.search.restore.Reads as restore
 use Rattle.engine.proofs.search.take.Reads as taking
 use Rattle.engine.proofs.search.without.Reads as without
-use Rattle.engine.proofs.tableau.literal_of.Reads as literal-of
-use Rattle.engine.proofs.tableau.parent_of.Reads as parent-of
+use Rattle.tableaux.proofs.tableau.literal_of.Reads as literal-of
+use Rattle.tableaux.proofs.tableau.parent_of.Reads as parent-of
 use Rattle.engine.proofs.search.+attempt+extensions+reductions+treat.{statement}
 use Rattle.engine.proofs.search.+attempt+extensions+reductions+treat.Tie.{close}
 

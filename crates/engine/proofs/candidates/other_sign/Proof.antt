@@ -1,6 +1,0 @@
-use Rattle.engine.proofs.Scans.{flipped}
-use Rattle.engine.proofs.candidates.other_sign.Statement.{statement}
-use Rattle.engine.proofs.candidates.other_sign.Tie as tie
-
-pub other-sign-spec : {M : Type 1} → statement M
-other-sign-spec = tie.close (tie.spec (λ c. flipped _))

@@ -1,9 +1,0 @@
-use borrow.Author.Needs.{needs}
-use Rattle.engine.proofs.Hanging.{hangs-laws}
-use Rattle.engine.proofs.tableau.hangs.Statement.{statement}
-use Rattle.engine.proofs.tableau.hangs.Tie as tie
-
-ruleset all = (needs, hangs-laws)
-
-pub hangs-spec : {M : Type 1} → statement M
-hangs-spec = tie.close (tie.spec (λ c κs. search all) (λ c. search all) (λ c. search all))

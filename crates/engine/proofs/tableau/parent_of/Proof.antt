@@ -1,8 +1,0 @@
-use borrow.Author.Needs.{needs}
-use Rattle.engine.proofs.tableau.parent_of.Statement.{statement}
-use Rattle.engine.proofs.tableau.parent_of.Tie as tie
-
-pub parent-of-spec : {M : Type 1} → statement M
-parent-of-spec =
-    tie.close
-    (tie.spec (λ c. search needs) (λ c κs. search needs) (λ c. search needs) (λ c. search needs) (λ c. search needs) (λ c. rw (c .before .wide .ensures)))

@@ -1,0 +1,5 @@
+pub mod Accepts
+pub mod Says
+pub mod CallDemands
+pub mod CallsTold
+pub mod Unique

@@ -1,0 +1,55 @@
+-- So many steps stand at the front of the proof buffer. The measure is how many are left.
+use lib.ListN.{length, take, drop, getD, set, length-drop}
+use lib.Seq.{paste, paste-zero, paste-suc, length-paste, length-take-le, getD-drop}
+use mathlib.Core.List.{List}
+use mathlib.Core.Path.{_≡_, sym, _∙_, ap}
+use native.Mathlib.Nat.{zero-add}
+use native.Mathlib.Numerals.{add-one}
+use native.Mathlib.Omega.{arith}
+use borrow.Author.Needs.{needs}
+use Prim.Native.Nat.{ℕ, _+_, _-_, _≤_, _<_}
+use Rattle.hukolearu.specs.Calls.{atFront}
+use Rattle.hukolearu.proofs.calls.copy_steps.Statement.{statement}
+use Rattle.hukolearu.proofs.calls.copy_steps.Tie as tie
+
+abbrev Inv-loop : tie.InvT-loop
+Inv-loop work proof₀ count n i₀ proof i = (i ≤ n) × (proof ≡ paste proof₀ 0 (drop 1984 work) i)
+
+abbrev μ-loop : tie.MeasureT-loop
+μ-loop work proof₀ count n i₀ proof i = n - i
+
+module _ (m d : List ℕ) (n i : ℕ) {p : List ℕ} (room : length m ≡ 16384) (few : n ≤ 199) (enough : 199 ≤ length d) (e : p ≡ paste d 0 (drop 1984 m) i) where
+  copied-length : i ≤ n → length p ≡ length d
+  copied-length h = ap length e ∙ length-paste d 0 (drop 1984 m) i (omega arith) (omega (arith, length-drop {A = ℕ} 1984 m))
+
+  copied-more : i < n → set p i (getD m (1984 + i) 0) ≡ paste d 0 (drop 1984 m) (i + 1)
+  copied-more h =
+      rw (e, add-one)
+      (ap (set (paste d 0 (drop 1984 m) i) i) (sym (getD-drop 1984 m i 0))
+      ∙ ap (λ (k : ℕ). set (paste d 0 (drop 1984 m) i) k (getD (drop 1984 m) i 0)) (sym (zero-add i))
+      ∙ paste-suc d 0 (drop 1984 m) i 0 (omega arith) (omega (arith, length-drop {A = ℕ} 1984 m)))
+
+  copied-all : i ≤ n → n ≤ i → p ≡ atFront (take n (drop 1984 m)) d
+  copied-all h k =
+      let z : i ≡ n = omega arith in
+      let l : length (take n (drop 1984 m)) ≡ n = length-take-le n (drop 1984 m) (omega (arith, length-drop {A = ℕ} 1984 m)) in
+      e ∙ rw (z, zero-add) (sym (rw l))
+
+pub copy-steps-spec : {M : Type 1} → statement M
+copy-steps-spec =
+    tie.close
+    (tie.spec
+    Inv-loop
+    μ-loop
+    (λ c κs. search needs)
+    (λ c. let a = c .before .before .before in (omega arith, paste-zero (a .args .proof .now) 0 (drop 1984 (a .args .work .now))))
+    (λ c. omega arith)
+    (λ c. omega arith)
+    (λ c. omega arith)
+    (λ c. omega arith)
+    (λ c. let a = c .before .before .before .before .before .before in omega (arith, copied-length (a .args .work .now) (a .args .proof .now) (a .args .count) (c .before .before .loop .i) (a .pre .0) (a .pre .1) (a .pre .2) (c .before .before .loop .inv .1) (omega arith)))
+    (λ c. omega arith)
+    (λ c. omega arith)
+    (λ c. let a = c .before .before .before .before .before .before in (omega arith, copied-more (a .args .work .now) (a .args .proof .now) (a .args .count) (c .before .before .loop .i) (a .pre .0) (a .pre .1) (a .pre .2) (c .before .before .loop .inv .1) (omega arith)))
+    (λ c. let a = c .before .before .before .before .before in copied-length (a .args .work .now) (a .args .proof .now) (a .args .count) (c .before .loop .i) (a .pre .0) (a .pre .1) (a .pre .2) (c .before .loop .inv .1) (omega arith))
+    (λ c. let a = c .before .before .before .before .before in copied-all (a .args .work .now) (a .args .proof .now) (a .args .count) (c .before .loop .i) (a .pre .0) (a .pre .1) (a .pre .2) (c .before .loop .inv .1) (omega arith) (omega arith)))

@@ -1,0 +1,28 @@
+use borrow.Author.Needs.{needs}
+use Rattle.hukolearu.proofs.CallsTold.{search-laws}
+use Rattle.hukolearu.proofs.calls.searched.Statement.{statement}
+use Rattle.hukolearu.proofs.calls.searched.Tie as tie
+
+ruleset all = (needs, search-laws)
+
+pub searched-spec : {M : Type 1} → statement M
+searched-spec =
+    tie.close
+    (tie.spec
+    (λ c κs. search all)
+    (λ c. search all)
+    (λ c. search all)
+    (λ c κs. search all)
+    (λ c. search all)
+    (λ c κs. search all)
+    (λ c. search all)
+    (λ c. search all)
+    (λ c κs. (search all, search all, search all))
+    (λ c. search all)
+    (λ c. search all)
+    (λ c. search all)
+    (λ c. search all)
+    (λ c. search all)
+    (λ c. search all)
+    (λ c. search all)
+    (λ c. search all))

@@ -1,0 +1,4 @@
+pub mod Calls
+pub mod Says
+pub mod CallDemands
+pub mod Telling

@@ -1,0 +1,137 @@
+-- The start on the work words: cleared, with one copy of the question, its literals the open leaves.
+use mathlib.Core.Path.{_≡_, refl, sym, ap, ap₂, _∙_}
+use mathlib.Core.List.{List, [], _++_, map, append-nil}
+use Prim.Native.Nat.{ℕ, _+_, _*_, _≤_, _<_}
+use native.Mathlib.Nat.{zero-add}
+use native.Mathlib.Omega.{arith}
+use borrow.Author.Tests.{eq-eqb, ne-eqb}
+use lib.ListN.{length, take, drop, getD, set, replicate, length-set, length-append, length-replicate, length-drop, getD-replicate, List·getD-append}
+use lib.Seq.{getD-set-same, getD-set-other}
+use Rattle.words.specs.Fields.{literalsOf}
+use Rattle.rules.specs.Tableau as tableau
+use Rattle.table.specs.Syntax.{Table}
+use Rattle.table.specs.Decode.{clauseOf}
+use Rattle.unification.specs.State.{startAt, copiesOf, countOf, ownWords, ClauseAt, literalAtReference, bindingsOf}
+use Rattle.unification.specs.Good.{Good}
+use Rattle.tableaux.specs.Leaves.{chain, leavesFrom, questionsAmong, hung}
+use Rattle.tableaux.specs.Ready.{Noted, Stands, openLeaves, startLeaves, Begun, hangingAt, headAfter}
+use Rattle.tableaux.specs.declared.tableau.Place.{Place}
+use Rattle.unification.proofs.Bound.{Clauses}
+use Rattle.tableaux.proofs.Copies.{start-good}
+use Rattle.tableaux.proofs.Literals.{clause-some, clause-few, hanging-all, copy-all}
+use Rattle.tableaux.proofs.Hung.{hung-copies, hung-start, hung-carries, hung-good, hung-noted, hung-open, hung-high}
+use Rattle.tableaux.proofs.Extending.{hang-length}
+
+-- words that were cleared
+module _ {n : ℕ} (m : List ℕ) {m₀ : List ℕ} (size : length m ≡ n) (e : m₀ ≡ take 0 m ++ replicate n 0 ++ drop (0 + n) m) where
+  pub cleared-length : length m₀ ≡ n
+  cleared-length =
+      ap length e ∙ length-append (replicate n 0) (drop (0 + n) m) ∙ rw (length-replicate, length-drop, zero-add, size) (omega arith)
+
+  pub cleared-zero : (i : ℕ) → i < n → getD m₀ i 0 ≡ 0
+  cleared-zero i h =
+      ap (λ (l : List ℕ). getD l i 0) e
+      ∙ List·getD-append (replicate n 0) (drop (0 + n) m) 0 i (rw length-replicate h)
+      ∙ getD-replicate n i 0 0 h
+
+module _ {f : List ℕ} {question : ℕ} (m₀ : List ℕ) (size : length m₀ ≡ 16384) (zeros : (i : ℕ) → i < 16384 → getD m₀ i 0 ≡ 0) (clause : ClauseAt f question) where
+  abbrev one : List ℕ
+  one = set (set m₀ 0 question) 33 1
+
+  one-other : (i : ℕ) → (i ≡ 33 → ⊥) → (i ≡ 0 → ⊥) → i < 16384 → getD one i 0 ≡ 0
+  one-other i a b l = getD-set-other (set m₀ 0 question) 33 i 1 0 a ∙ getD-set-other m₀ 0 i question 0 b ∙ zeros i l
+
+  one-copies : copiesOf one ≡ 1
+  one-copies = getD-set-same (set m₀ 0 question) 33 1 0 (simp length-set (omega arith))
+
+  one-start : startAt one 0 ≡ question
+  one-start =
+      getD-set-other (set m₀ 0 question) 33 0 1 0 (λ e. omega arith) ∙ getD-set-same m₀ 0 question 0 (omega arith)
+
+  one-count : countOf one ≡ 0
+  one-count = one-other 34 (λ e. omega arith) (λ e. omega arith) (omega arith)
+
+  clauses : Clauses f one
+  clauses = record {
+    few = omega (arith, one-copies);
+    starts = λ c l. let z : c ≡ 0 = omega (arith, one-copies) in rw (z, one-start) clause;
+  }
+
+  one-good : Good f one
+  one-good = start-good (simp length-set size) clauses one-count (λ v l. one-other (640 + v) (λ e. omega arith) (λ e. omega arith) (omega arith))
+
+  none-noted : Noted f one 0
+  none-noted = record { stands = λ c l. absurd (omega arith); up = λ c l. absurd (omega arith); right = λ c l. absurd (omega arith) }
+
+  room : 0 + length (hangingAt f question 0) ≤ 231
+  room = omega (arith, hanging-all clause, clause-few clause)
+
+  pub begin-counts : {count : ℕ} → count ≡ literalsOf (getD f question 0) → (0 + count ≤ 231) × (count ≡ length (hangingAt f question 0))
+  begin-counts e = (omega (arith, e, clause-few clause), e ∙ sym (hanging-all clause))
+
+  abbrev after : List ℕ
+  after = hung 0 0 0 0 (hangingAt f question 0) one
+
+  after-copies : copiesOf after ≡ 1
+  after-copies = hung-copies f one 0 0 0 0 question 0 room ∙ one-copies
+
+  after-start : startAt after 0 ≡ question
+  after-start = hung-start f one 0 0 0 0 question 0 room 0 (omega arith) ∙ one-start
+
+  made : 0 < copiesOf one
+  made = omega (arith, one-copies)
+
+  module _ {count : ℕ} (e : count ≡ literalsOf (getD f question 0)) where
+    abbrev place : Place
+    place = record { head = count; leaves = count; steps = 0 }
+
+    here : 0 + length (hangingAt f question 0) ≡ count
+    here = omega (arith, hanging-all clause, e)
+
+    first : headAfter 0 (length (hangingAt f question 0)) 0 ≡ count
+    first = rw (ne-eqb (length (hangingAt f question 0)) 0 (λ z. omega (arith, hanging-all clause, clause-some clause))) here
+
+    open-hung : openLeaves f after place ≡ tableau.hang [] (map (λ (o : ℕ). literalAtReference f after (0 * 256 + o)) (hangingAt f question 0)) ++ []
+    unfolding chain
+    open-hung =
+        ap₂ (λ (n h : ℕ). leavesFrom f after n h) (sym here) (sym first)
+        ∙ hung-open f one 0 0 0 0 question 0 room one-good none-noted made one-start clause (omega arith) (omega arith)
+
+    open-leaves : openLeaves f after place ≡ startLeaves f question
+    open-leaves =
+        open-hung
+        ∙ append-nil (tableau.hang [] (map (λ (o : ℕ). literalAtReference f after (0 * 256 + o)) (hangingAt f question 0)))
+        ∙ ap (tableau.hang []) (copy-all clause after 0 after-start)
+
+    begun : Begun f after question place
+    begun = record {
+      ready = record {
+        good = hung-good f one 0 0 0 0 question 0 room one-good;
+        noted = rw here at (hung-noted f one 0 0 0 0 question 0 room one-good none-noted made one-start clause (omega arith) (omega arith));
+        head = omega arith;
+        begun = omega (arith, after-copies);
+        room = omega (arith, after-copies, e, clause-few clause);
+        taken =
+            omega (arith, ap length open-hung, hang-length [] (λ (o : ℕ). literalAtReference f after (0 * 256 + o)) (hangingAt f question 0) [], here);
+      };
+      nothing-bound = hung-carries f one 0 0 0 0 question 0 room one-good .count ∙ one-count;
+      copies = after-copies;
+      start = after-start;
+      leaves = open-leaves;
+      steps = refl;
+      unnumbered = λ v l. hung-high f one 0 0 0 0 question 0 room (2240 + v) (omega arith) ∙ one-other (2240 + v) (λ z. omega arith) (λ z. omega arith) (omega arith);
+    }
+
+    pub begun-as : {m′ : List ℕ} → m′ ≡ hung 0 0 0 0 (hangingAt f question 0) one → Begun f m′ question place
+    begun-as em = rw em begun
+
+-- the work words after the start stand for the rules' start
+pub begun-stands : {f m : List ℕ} {question : ℕ} {place : Place} → Begun f m question place → (t : Table) → t .question ≡ clauseOf (ownWords f question)
+    → Stands f m question place (tableau.start t) []
+unfolding tableau.start questionsAmong bindingsOf
+begun-stands {f} {m} {question} b t e = record {
+  leaves = rw e (sym (b .leaves));
+  bindings = sym (ap (bindingsOf f m) (b .nothing-bound));
+  extensions = sym (b .copies);
+  questions = rw (b .copies, eq-eqb (startAt m 0) question (b .start));
+}

@@ -1,0 +1,12 @@
+pub mod Scans
+pub mod Copies
+pub mod Chains
+pub mod Hanging
+pub mod Literals
+pub mod Leaves
+pub mod Extending
+pub mod Kept
+pub mod Leftmost
+pub mod Reducing
+pub mod Hung
+pub mod Beginning

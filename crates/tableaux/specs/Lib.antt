@@ -1,0 +1,3 @@
+pub mod Scanning
+pub mod Leaves
+pub mod Ready

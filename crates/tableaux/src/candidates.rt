@@ -1,0 +1,120 @@
+// The extensions of a leaf, found by the literal's word: by clause, then literal.
+use words::fields;
+ghost use mathlib.Core.Path.{_≡_};
+ghost use Prim.Native.Nat.{_+_, _≤_, _<_};
+ghost use lib.ListN.{length, take};
+ghost use Rattle.tableaux.specs.Scanning.{begun, pastWord, Standing, IsNext, isEntry, IsEntry, otherSign};
+
+// Where a scan of the body stands: the next word, the clauses begun before it, where the latest begins, and its literals before the next word.
+pub struct Scan {
+    pub at: u32,
+    pub clauses: u32,
+    pub start: u32,
+    pub literals: u32,
+}
+
+pub enum Candidate {
+    Entry(Scan),
+    Done,
+}
+
+pub fn beginning() -> Scan
+    ensures { λ r. ⌜ r ≡ begun ⌝ }
+{
+    Scan {
+        at: 0,
+        clauses: 0,
+        start: 0,
+        literals: 0,
+    }
+}
+
+// The scan past one word.
+pub fn past(scan: Scan, word: u32) -> Scan
+    requires { ⌜ (scan .at < 4294967295) × (scan .clauses ≤ scan .at) × (scan .literals ≤ scan .at) ⌝ }
+    ensures { λ r. ⌜ r ≡ pastWord scan word ⌝ }
+{
+    let at = scan.at;
+    let kind = fields::kind(word);
+    if kind == 3 {
+        return Scan {
+            at: at + 1,
+            clauses: scan.clauses + 1,
+            start: at,
+            literals: 0,
+        };
+    }
+    if kind == 2 {
+        return Scan {
+            at: at + 1,
+            clauses: scan.clauses,
+            start: scan.start,
+            literals: scan.literals + 1,
+        };
+    }
+    Scan {
+        at: at + 1,
+        clauses: scan.clauses,
+        start: scan.start,
+        literals: scan.literals,
+    }
+}
+
+// The next literal with this word.
+pub fn next(file: &[u32], body: u32, wanted: u32, from: Scan) -> Candidate
+    requires { ⌜ (body ≤ length (now file)) × Standing (take body (now file)) from ⌝ }
+    ensures { λ r. ⌜ IsNext (take body (now (file .entry))) wanted from r ⌝ }
+{
+    let mut scan = from;
+    loop {
+        let at = scan.at;
+        if body <= at {
+            return Candidate::Done;
+        }
+        let word = file[fields::wide(at)];
+        if word == wanted {
+            return Candidate::Entry(scan);
+        }
+        scan = past(scan, word);
+    }
+}
+
+// The word is the literal of a number in the clause of a number.
+fn is_entry(scan: Scan, word: u32, clause: u32, literal: u32) -> bool
+    requires { ⌜ clause < 512 ⌝ }
+    ensures { λ r. ⌜ r ≡ isEntry clause literal scan word ⌝ }
+{
+    if fields::kind(word) != 2 {
+        return false;
+    }
+    if scan.clauses != clause + 1 {
+        return false;
+    }
+    scan.literals == literal
+}
+
+// The literal of a number in the clause of a number.
+pub fn entry(file: &[u32], body: u32, clause: u32, literal: u32) -> Candidate
+    requires { ⌜ (body ≤ length (now file)) × (clause < 512) ⌝ }
+    ensures { λ r. ⌜ IsEntry (take body (now (file .entry))) clause literal r ⌝ }
+{
+    let mut scan = beginning();
+    loop {
+        let at = scan.at;
+        if body <= at {
+            return Candidate::Done;
+        }
+        let word = file[fields::wide(at)];
+        if is_entry(scan, word, clause, literal) {
+            return Candidate::Entry(scan);
+        }
+        scan = past(scan, word);
+    }
+}
+
+// The literal word of the other sign.
+pub fn other_sign(word: u32) -> u32
+    ensures { λ r. ⌜ r ≡ otherSign word ⌝ }
+{
+    word ^ 0x8000
+}

@@ -1,0 +1,229 @@
+// The leaves of a tableau, noted in the work words, and the steps on them.
+use unification::memory;
+use unification::unify;
+use unification::unify::Meeting;
+use words::fields;
+ghost use mathlib.Core.Bool.{cond};
+ghost use mathlib.Core.Path.{_≡_};
+ghost use Prim.Native.Nat.{ℕ, _+_, _*_, _-_, _≤_, _<_};
+ghost use lib.Dec.{eqb};
+ghost use lib.ListN.{length, drop, getD, set};
+ghost use Rattle.words.specs.Fields.{literalsOf};
+ghost use Rattle.unification.specs.State.{copiesOf, literalAt, parentAt, nextAt, ownWords, ClauseAt};
+ghost use Rattle.tableaux.specs.Leaves.{hangs, hanging, noted, hung};
+ghost use Rattle.tableaux.specs.Ready.{Ready, Begun, Reducible, Reduced, Extensible, Extended, opened, hangingAt, headAfter, hungUnder, placeUnder};
+
+// The leftmost open leaf and one, 0 where none is open; the leaves noted, and the steps taken.
+pub struct Place {
+    pub head: u32,
+    pub leaves: u32,
+    pub steps: u32,
+}
+
+// How the pair of a step met, and the place after it.
+pub struct Taken {
+    pub meeting: Meeting,
+    pub place: Place,
+}
+
+fn note(work: &mut [u32], leaf: u32, literal: u32, parent: u32, next: u32)
+    requires { ⌜ (length (now work) ≡ 16384) × (leaf < 231) ⌝ }
+    ensures { λ _. ⌜ now (work .exit) ≡ noted (now (work .entry)) leaf literal parent next ⌝ }
+{
+    let at = fields::wide(leaf);
+    work[memory::LITERAL + at] = literal;
+    work[memory::PARENT + at] = parent;
+    work[memory::NEXT + at] = next;
+}
+
+fn hangs(word: u32, offset: u32, entered: u32) -> bool
+    ensures { λ r. ⌜ r ≡ hangs entered offset word ⌝ }
+{
+    if fields::kind(word) == 2 {
+        return offset != entered;
+    }
+    false
+}
+
+// The head after a leaf that has so many hung leaves right of it.
+fn next_of(left: u32, rest: u32, leaves: u32) -> u32
+    requires { ⌜ (left < 231) × (leaves < 231) ⌝ }
+    ensures { λ r. ⌜ r ≡ cond (eqb left 0) rest (leaves + left) ⌝ }
+{
+    if left == 0 {
+        return rest;
+    }
+    leaves + left
+}
+
+// The literals of a copy of the clause at a position, but for the one entered, as open leaves left of the others.
+fn hang(
+    file: &[u32],
+    work: &mut [u32],
+    start: u32,
+    copy: u32,
+    entered: u32,
+    count: u32,
+    parent: u32,
+    rest: u32,
+    leaves: u32,
+)
+    requires { ⌜ (length (now work) ≡ 16384) × (copy < 33) × (leaves + count ≤ 231) ⌝ }
+    requires { ⌜ count ≡ length (hanging entered 1 (drop 1 (ownWords (now file) start))) ⌝ }
+    ensures { λ _. ⌜ now (work .exit) ≡ hung copy parent rest leaves (hanging entered 1 (drop 1 (ownWords (now (file .entry)) start))) (now (work .entry)) ⌝ }
+{
+    let mut offset: u32 = 1;
+    let mut left = count;
+    while left != 0 {
+        let word = file[fields::wide(start) + fields::wide(offset)];
+        let here = offset;
+        offset += 1;
+        if !hangs(word, here, entered) {
+            continue;
+        }
+        left -= 1;
+        note(
+            work,
+            leaves + left,
+            copy * 256 + here,
+            parent,
+            next_of(left, rest, leaves),
+        );
+    }
+}
+
+// The reference of the literal of a leaf, its parent, and the next open leaf right of it, by the leaf's head.
+pub fn literal_of(work: &[u32], head: u32) -> u32
+    requires { ⌜ (length (now work) ≡ 16384) × (0 < head) × (head ≤ 231) ⌝ }
+    ensures { λ r. ⌜ r ≡ literalAt (now (work .entry)) (head - 1) ⌝ }
+{
+    work[memory::LITERAL + fields::wide(head - 1)]
+}
+
+pub fn parent_of(work: &[u32], head: u32) -> u32
+    requires { ⌜ (length (now work) ≡ 16384) × (0 < head) × (head ≤ 231) ⌝ }
+    ensures { λ r. ⌜ r ≡ parentAt (now (work .entry)) (head - 1) ⌝ }
+{
+    work[memory::PARENT + fields::wide(head - 1)]
+}
+
+pub fn right_of(work: &[u32], head: u32) -> u32
+    requires { ⌜ (length (now work) ≡ 16384) × (0 < head) × (head ≤ 231) ⌝ }
+    ensures { λ r. ⌜ r ≡ nextAt (now (work .entry)) (head - 1) ⌝ }
+{
+    work[memory::NEXT + fields::wide(head - 1)]
+}
+
+fn note_step(work: &mut [u32], steps: u32, step: u32)
+    requires { ⌜ (length (now work) ≡ 16384) × (steps < 231) ⌝ }
+    ensures { λ _. ⌜ now (work .exit) ≡ set (now (work .entry)) (1984 + steps) step ⌝ }
+{
+    work[memory::STEPS + fields::wide(steps)] = step;
+}
+
+// How many literals the clause at a position has.
+fn literals_at(file: &[u32], start: u32) -> u32
+    requires { ⌜ start < length (now file) ⌝ }
+    ensures { λ r. ⌜ r ≡ literalsOf (getD (now (file .entry)) start 0) ⌝ }
+{
+    fields::literals(file[fields::wide(start)])
+}
+
+// The start: a copy of the question, its literals the open leaves.
+pub fn begin(file: &[u32], work: &mut [u32], question: u32) -> Place
+    requires { ⌜ (length (now work) ≡ 16384) × ClauseAt (now file) question ⌝ }
+    ensures { λ r. ⌜ Begun (now (file .entry)) (now (work .exit)) question r ⌝ }
+{
+    memory::clear(work, 0, memory::ROOM);
+    work[memory::STARTS] = question;
+    work[memory::COPIES] = 1;
+    let count = literals_at(file, question);
+    hang(file, work, question, 0, 0, count, 0, 0, 0);
+    Place {
+        head: count,
+        leaves: count,
+        steps: 0,
+    }
+}
+
+// The leftmost leaf is closed against an ancestor's literal.
+pub fn reduce(file: &[u32], work: &mut [u32], place: Place, ancestor: u32, step: u32) -> Taken
+    requires { ⌜ Reducible (now file) (now work) place ancestor ⌝ }
+    ensures { λ r. ⌜ Reduced (now (file .entry)) (now (work .entry)) (now (work .exit)) place ancestor step r ⌝ }
+{
+    let literal = literal_of(work, place.head);
+    let rest = right_of(work, place.head);
+    note_step(work, place.steps, step);
+    Taken {
+        meeting: unify::meet_atoms(file, work, literal, ancestor),
+        place: Place {
+            head: rest,
+            leaves: place.leaves,
+            steps: place.steps + 1,
+        },
+    }
+}
+
+// One more copy, and the step that makes it.
+fn open_copy(work: &mut [u32], start: u32, steps: u32, step: u32) -> u32
+    requires { ⌜ (length (now work) ≡ 16384) × (copiesOf (now work) < 33) × (steps < 231) ⌝ }
+    ensures { λ r. ⌜ (r ≡ copiesOf (now (work .entry))) × (now (work .exit) ≡ opened (now (work .entry)) start steps step) ⌝ }
+{
+    let copy = work[memory::COPIES];
+    note_step(work, steps, step);
+    work[memory::STARTS + fields::wide(copy)] = start;
+    work[memory::COPIES] = copy + 1;
+    copy
+}
+
+// The literals of a copy, but for the one entered, hang under the leftmost leaf.
+fn hang_others(
+    file: &[u32],
+    work: &mut [u32],
+    place: Place,
+    start: u32,
+    copy: u32,
+    offset: u32,
+) -> Place
+    requires { ⌜ (length (now work) ≡ 16384) × (copy < 33) × (start < length (now file)) × (0 < place .head) × (place .head ≤ place .leaves) × (place .leaves ≤ 199) × (place .steps < 231) ⌝ }
+    requires { ⌜ (length (hangingAt (now file) start offset) ≡ literalsOf (getD (now file) start 0) - 1) × (1 ≤ literalsOf (getD (now file) start 0)) ⌝ }
+    ensures { λ r. ⌜ (r ≡ placeUnder (now (file .entry)) (now (work .entry)) place start offset) × (now (work .exit) ≡ hungUnder (now (file .entry)) (now (work .entry)) place start copy offset) ⌝ }
+{
+    let head = place.head;
+    let leaves = place.leaves;
+    let count = literals_at(file, start) - 1;
+    let rest = right_of(work, head);
+    hang(file, work, start, copy, offset, count, head, rest, leaves);
+    Place {
+        head: next_of(count, rest, leaves),
+        leaves: leaves + count,
+        steps: place.steps + 1,
+    }
+}
+
+// A copy of the clause at a position hangs under the leftmost leaf, entered at the literal of an offset.
+pub fn extend(
+    file: &[u32],
+    work: &mut [u32],
+    place: Place,
+    start: u32,
+    offset: u32,
+    step: u32,
+) -> Taken
+    requires { ⌜ Extensible (now file) (now work) place start offset ⌝ }
+    ensures { λ r. ⌜ Extended (now (file .entry)) (now (work .entry)) (now (work .exit)) place start offset step r ⌝ }
+{
+    let copy = open_copy(work, start, place.steps, step);
+    let literal = literal_of(work, place.head);
+    let met = unify::meet_atoms(file, work, literal, copy * 256 + offset);
+    let Meeting::Made = met else {
+        return Taken {
+            meeting: met,
+            place,
+        };
+    };
+    Taken {
+        meeting: met,
+        place: hang_others(file, work, place, start, copy, offset),
+    }
+}

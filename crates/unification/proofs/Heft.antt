@@ -1,0 +1,73 @@
+-- A number that falls at every call of a meeting: room for more bindings, and the height of the left terms under those that there are.
+use borrow.Author.Tests.{eqb-true, eqb-false}
+use lib.Dec.{eqb}
+use lib.ListN.{length}
+use mathlib.Core.List.{List}
+use mathlib.Core.Path.{_≡_, sym, _∙_, ap}
+use native.Mathlib.Nat.{mul-le-mul-right, suc-mul}
+use native.Mathlib.Omega.{arith}
+use Prim.Native.Nat.{ℕ, suc, _+_, _*_, _-_, _≤_, _<_}
+use Rattle.table.specs.Syntax.{under, unders}
+use Rattle.table.specs.Decode.{first, rest}
+use Rattle.rules.specs.Substitution.{Variable}
+use Rattle.rules.specs.Unify.{solution, height, heightAmong, doubled}
+use Rattle.rules.proofs.Unify.Tests.{decide}
+use Rattle.rules.proofs.Unify.Heights.{heights-under, solution-height, doubled-mono}
+use Rattle.unification.specs.State.{countOf, Points, termOf, termsOf, bindingsOf, bound}
+use Rattle.unification.specs.Good.{Good, Grown}
+use Rattle.unification.proofs.TermLists.{height-first}
+use Rattle.unification.proofs.References.{terms-height, first-terms}
+use Rattle.unification.proofs.Bound.{bindings-length, bindings-low}
+
+-- no term is higher under what is bound
+unfoldable pub tallest : ℕ
+tallest = suc (256 + doubled 528 256)
+
+abbrev pub heightUnder : List ℕ → List ℕ → ℕ → ℕ → ℕ
+heightUnder f m r n = heightAmong (unders (solution (bound f m)) (first n (termsOf f m r)))
+
+abbrev pub heft : List ℕ → List ℕ → ℕ → ℕ → ℕ
+heft f m r n = (528 - countOf m) * tallest + heightUnder f m r n
+
+abbrev pub heftOf : List ℕ → List ℕ → ℕ → ℕ
+heftOf f m r = (528 - countOf m) * tallest + height (under (solution (bound f m)) (termOf f m r))
+
+pub lower : {f m : List ℕ} → Good f m → (r n : ℕ) → heightUnder f m r n < tallest
+unfolding tallest
+lower {f} {m} h r n =
+    omega (
+      arith,
+      heights-under (first n (termsOf f m r)) (solution (bound f m)) (doubled 528 256) low,
+      height-first n (termsOf f m r),
+      terms-height f m r,
+    )
+  where
+    low : (x : Variable) → height (solution (bound f m) x) ≤ doubled 528 256
+    low x =
+        omega (
+          arith,
+          solution-height (bound f m) 256 (bindings-low f m (countOf m)) x,
+          doubled-mono (length (bound f m)) 528 256 (omega (arith, bindings-length f m (countOf m), h .room)),
+        )
+
+-- one of the terms, and those after it
+pub heft-first : {f m : List ℕ} {r k : ℕ} → Points f m r (suc k) → heftOf f m r < heft f m r (suc k)
+unfolding height under
+heft-first {f} {m} {r} {k} p = rw (first-terms p k) (omega arith)
+
+-- as many bindings as before are the same
+pub as-before : {f m m′ : List ℕ} → Grown f m m′ → countOf m ≡ countOf m′ → bound f m′ ≡ bound f m
+as-before {f} {m} {m′} g e = ap (bindingsOf f m′) (sym e) ∙ g .older (countOf m) (omega arith)
+
+pub heft-rest : {f m m′ : List ℕ} {r k : ℕ} (r′ : ℕ) → Grown f m m′ → Points f m r (suc k) → termsOf f m′ r′ ≡ rest 1 (termsOf f m r) → heft f m′ r′ k ≤ heft f m r (suc k)
+unfolding height under
+heft-rest {f} {m} {m′} {r} {k} r′ g p e =
+    decide
+    (eqb (countOf m) (countOf m′))
+    (λ q. let z : countOf m ≡ countOf m′ = eqb-true _ _ q in rw (as-before g z, e, ← z, first-terms p k) (omega arith))
+    (λ q.
+    let z : countOf m ≡ countOf m′ → ⊥ = eqb-false _ _ q in
+    let fewer : suc (528 - countOf m′) ≤ 528 - countOf m = omega (arith, g .more, g .good .room) in
+    let product = mul-le-mul-right tallest fewer in
+    let less = suc-mul (528 - countOf m′) tallest in
+    omega (arith, lower (g .good) r′ k, product, less))

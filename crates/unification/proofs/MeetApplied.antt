@@ -1,0 +1,94 @@
+-- Two applications of one symbol: they are known to be equal, or their arguments are made so. The outcomes, one law for each, with premises as the code has them.
+use lib.ListN.{set}
+use mathlib.Core.Bool.{Bool, true, false}
+use mathlib.Core.List.{List}
+use mathlib.Core.Path.{_≡_, sym, _∙_, ap}
+use native.Mathlib.Omega.{arith}
+use Prim.Native.Nat.{ℕ, _+_, _≤_, _<_}
+use Rattle.table.specs.Syntax.{under}
+use Rattle.rules.specs.Unify.{made, solution, unify}
+use Rattle.rules.proofs.Unify.{unify-answers}
+use Rattle.rules.proofs.Unify.Solution.{solution-satisfies}
+use Rattle.unification.specs.State.{termOf, bound}
+use Rattle.unification.specs.Good.{Good, Outcome}
+use Rattle.unification.specs.Thorough.{Equal, Rooted, Quiet, argumentsMet, Applied, Spent, Meets}
+use Rattle.unification.specs.declared.unify.Meeting.{Meeting}
+use Rattle.unification.specs.declared.unify.Meeting.the-variants.{Made, Clash}
+use Rattle.unification.proofs.Walk.{small}
+use Rattle.unification.proofs.KeptStarts.{same-term}
+use Rattle.unification.proofs.Push.{grown-none}
+use Rattle.unification.proofs.Thorough.{noting-then, noting-set, equal-grown, notes-same, notes-link}
+use Rattle.unification.proofs.Meet.{meets-as, meets-still}
+
+module _ {f m n : List ℕ} {r s : ℕ} (h : Good f m) (k : Quiet f m n) (p : Applied f m r s) where
+  abbrev Goal : List ℕ → List ℕ → Meeting → Type 0
+  Goal m′ n′ q = Meets f m m′ n n′ q (unify (bound f m) (termOf f m r) (termOf f m s))
+
+  pub applied-left : r < 8448
+  applied-left = small h (p .left)
+
+  pub applied-right : s < 8448
+  applied-right = small h (p .right)
+
+  module _ {a b : ℕ} (ga : Rooted n r a) (gb : Rooted n s b) where
+    pub applied-known : a ≡ b → Goal m n Made
+    applied-known e =
+        meets-still
+        h
+        k
+        (unify-answers (bound f m) (h .sound) (termOf f m r) (termOf f m s) .unchanged
+        (ga .equal f m (k .links) ∙ ap (λ (t : ℕ). under (solution (bound f m)) (termOf f m t)) e ∙ sym (gb .equal f m (k .links))))
+
+    module _ {n₁ : List ℕ} {q₁ : Bool} (t : Spent n n₁ q₁) where
+      pub applied-tired : q₁ ≡ true → Goal m n₁ Clash
+      applied-tired e =
+          record {
+            grown = grown-none h;
+            noting = t .noting;
+            on = λ d. absurd (let z : _≡_ {A = ℕ} 0 1 = cc in omega arith);
+            outcome = λ l. absurd (omega (arith, t .tired e));
+          }
+
+      pub applied-quiet : q₁ ≡ false → Quiet f m n₁
+      applied-quiet e = notes-same k (t .others) (t .on e)
+
+      module _ {m′ n₂ : List ℕ} {q : Meeting} (met : Meets f m m′ n₁ n₂ q (argumentsMet f m r s)) where
+        pub applied-met : Goal m′ n₂ q
+        applied-met =
+            meets-as
+            (p .same)
+            (record { grown = met .grown; noting = noting-then (t .noting) (met .noting); on = met .on; outcome = met .outcome })
+
+        module _ (e : q ≡ Made) where
+          quiet : Quiet f m′ n₂
+          quiet = met .on e
+
+          so : unify (bound f m) (termOf f m r) (termOf f m s) ≡ made (bound f m′)
+          so = let o : Outcome f m′ Made (unify (bound f m) (termOf f m r) (termOf f m s)) = rw e at (applied-met .outcome (quiet .awake)) in o
+
+          equal : Equal f m′ r s
+          equal =
+              rw (same-term (met .grown .kept .copies) f r (omega (arith, applied-left)), same-term (met .grown .kept .copies) f s (omega (arith, applied-right)))
+              (unify-answers (bound f m) (h .sound) (termOf f m r) (termOf f m s) .solutions so (solution (bound f m′)) .0
+              (solution-satisfies (bound f m′) (met .grown .good .sound)) .1)
+
+          roots : Equal f m′ a b
+          roots =
+              sym (equal-grown (met .grown) applied-left (omega (arith, applied-left, ga .low)) (ga .equal f m (k .links)))
+              ∙ equal
+              ∙ equal-grown (met .grown) applied-right (omega (arith, applied-right, gb .low)) (gb .equal f m (k .links))
+
+          linked : {from to : ℕ} → from < 8448 → to < from → Equal f m′ from to → {n₃ : List ℕ} → n₃ ≡ set n₂ (1 + from) (to + 1) → Goal m′ n₃ Made
+          linked {from} {to} lf lt q en =
+              record {
+                grown = met .grown;
+                noting = noting-then (noting-then (t .noting) (met .noting)) (noting-set (1 + from) (to + 1) (omega arith) en);
+                on = λ _. notes-link quiet lf lt q en;
+                outcome = λ _. so;
+              }
+
+          pub applied-up : a < b → {n₃ : List ℕ} → n₃ ≡ set n₂ (1 + b) (a + 1) → Goal m′ n₃ Made
+          applied-up l en = linked (omega (arith, applied-right, gb .low)) l (sym roots) en
+
+          pub applied-down : (a ≡ b → ⊥) → b ≤ a → {n₃ : List ℕ} → n₃ ≡ set n₂ (1 + a) (b + 1) → Goal m′ n₃ Made
+          applied-down d l en = linked (omega (arith, applied-left, ga .low)) (omega arith) roots en
