@@ -4,22 +4,12 @@ use mathlib.Core.List.{List}
 use Prim.Native.Nat.{ℕ, _+_, _≤_, _<_, min}
 use native.Mathlib.Omega.{arith}
 use lib.ListN.{length, take, drop, length-drop}
-use mir.Syntax.{w32}
-use mir.Val.{Fits}
 use Rattle.text.specs.Pieces.{upTo}
 use Rattle.text.proofs.Parts.{part-length}
 use Rattle.text.proofs.Lists.{front-length}
-use Rattle.table.specs.File.{bodyOf, judge}
-use Rattle.table.specs.Readers.{BeginsAt}
-use Rattle.table.proofs.Accepted.{accepted}
-use Rattle.table.proofs.Lookups.{start-in}
 
 pub lent : (n x m : ℕ) (ws : List ℕ) → n ≡ min x m → m ≡ length ws → n ≡ length (take n ws)
 lent n x m ws e f = part-length n ws (omega arith)
-
--- the position of a clause is a word
-pub start-word : (file : List ℕ) {number s : ℕ} → judge file .status ≡ 0 → BeginsAt (bodyOf file) number s → Fits w32 s
-start-word file z b = record { fits = omega (arith, start-in file z b, accepted file z .most) }
 
 -- where a line ends in what was read
 module _ (chunk : List ℕ) (at mark : ℕ) {end : ℕ} (e : end ≡ at + length (upTo mark (drop at chunk))) (h : at < length chunk) where

@@ -2,7 +2,6 @@
 ghost use mathlib.Core.Path.{_≡_};
 ghost use Prim.Native.Nat.{_≤_, _<_, min};
 ghost use lib.ListN.{length};
-ghost use Rattle.table.specs.File.{judge};
 use hukolearu::Outcome;
 use hukolearu::calls;
 use libc::STDIN_FILENO;
@@ -195,26 +194,13 @@ fn write_found(start: u32, list: &[u32]) {
     write_line(&out, n);
 }
 
-// Where a clause of an accepted file begins.
-fn start_of(file: &[u32], number: usize) -> u32
-    requires { ⌜ (judge (now file) .status ≡ 0) × (number < judge (now file) .clauses) ⌝ }
-{
-    let end = file.len() - 4;
-    table::file::start_of(&file[..end], number) as u32
-}
-
 fn lookup(file: &[u32], number: usize) {
-    let judged = table::file::judge(file);
-    let clauses = judged.clauses;
-    if judged.status != 0 {
+    let part = table::file::lookup(file, number);
+    if part.len() == 0 {
         io::write_all(STDOUT_FILENO, b"start - length 0 / -\n");
         return;
     }
-    if clauses <= number {
-        io::write_all(STDOUT_FILENO, b"start - length 0 / -\n");
-        return;
-    }
-    write_found(start_of(file, number), table::file::lookup(file, number));
+    write_found(table::file::place(file, number), part);
 }
 
 fn answer_lookup(line: &[u8], file: usize, number: u32) {

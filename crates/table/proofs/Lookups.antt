@@ -1,12 +1,12 @@
 -- The lookup of a clause, one law for each outcome, with premises as the code has them.
-use mathlib.Core.Path.{_≡_, sym, _∙_}
+use mathlib.Core.Path.{_≡_, sym, ap, _∙_}
 use mathlib.Core.List.{List}
 use mathlib.Core.Option.{none}
 use Prim.Native.Nat.{ℕ, _+_, _-_, _*_, _≤_, _<_}
 use native.Mathlib.Omega.{arith}
 use lib.ListN.{length, take, drop, getD}
 use lib.Seq.{getD-take}
-use mir.Syntax.{w64}
+use mir.Syntax.{w32, w64}
 use mir.Val.{Fits}
 use denote.Ref.{RefT, now}
 use borrow.Author.Tests.{eq-eqb, ne-eqb, lt-ltb, le-ltb}
@@ -35,6 +35,9 @@ module _ (file : List ℕ) (z : judge file .status ≡ 0) where
 
     pub start-small : Fits w64 (s * 4)
     start-small = record { fits = omega (arith, start-in, accepted file z .most) }
+
+    pub start-word : Fits w32 s
+    start-word = record { fits = omega (arith, start-in, accepted file z .most) }
 
     own-word : getD (bodyOf file) s 0 ≡ getD file s 0
     own-word = getD-take (length file - 4) file s 0 (omega (arith, b .fits, body-length file))
@@ -93,10 +96,23 @@ module _ (file : RefT (List ℕ)) (number : ℕ) {j : Judgement} (e : j ≡ judg
       pub looked-up : {r : RefT (List ℕ)} → Stands file (partFrom (now file) (getD (clauseStarts (now file)) number 0)) r → Stands file (clausePart (now file) number) r
       looked-up s = rw (part-found (now file) number judged-accepted judged-below) s
 
+module _ (file : List ℕ) (number : ℕ) {j : Judgement} (e : j ≡ judge file) where
+  pub place-of-none : (j .status ≡ 0 → ⊥) → 0 ≡ clausePart file number .start
+  place-of-none n = rw (none-refused file number (rw e at n))
+
+  module _ (z : j .status ≡ 0) where
+    pub place-above : j .clauses ≤ number → 0 ≡ clausePart file number .start
+    place-above h = rw (none-above file number (rw e at z) (rw e at h))
+
+    pub place-found : number < j .clauses → {s : ℕ} → BeginsAt (bodyOf file) number s → s ≡ clausePart file number .start
+    place-found h b = rw (part-found file number (rw e at z) (rw e at h)) (b .place)
+
 -- the contract of lookup permits one result: its words and its place in memory
 pub one-part : (file : RefT (List ℕ)) (part : Part) (r s : RefT (List ℕ)) → Stands file part r → Stands file part s → (now r ≡ now s) × (r .ptr ≡ s .ptr)
 one-part file part r s hr hs = (hr .words ∙ sym (hs .words), hr .place ∙ sym (hs .place))
 
 pub ruleset part-laws = (body-length, file-holds, body-sound, number-below, start-in, start-small, stop-in, stop-small, part-stands)
+
+pub ruleset place-laws = (start-word, judged-accepted, judged-below, place-of-none, place-above, place-found)
 
 pub ruleset lookup-laws = (file-refused, number-refused, judged-accepted, judged-below, looked-up)

@@ -162,7 +162,7 @@ pub fn judge(file: &[u32]) -> Judgement
 }
 
 // Where a clause begins, found by passing over the clauses before it.
-pub fn start_of(body: &[u32], number: usize) -> usize
+fn start_of(body: &[u32], number: usize) -> usize
     requires { ⌜ (bodyFault 0 0 (now body) ≡ none) × (number < length (starts 0 0 (now body))) ⌝ }
     ensures { λ r. ⌜ BeginsAt (now (body .entry)) number r ⌝ }
 {
@@ -175,13 +175,21 @@ pub fn start_of(body: &[u32], number: usize) -> usize
     at
 }
 
+// Where a clause of an accepted file begins.
+fn clause_start(file: &[u32], number: usize) -> usize
+    requires { ⌜ (judge (now file) .status ≡ 0) × (number < judge (now file) .clauses) ⌝ }
+    ensures { λ r. ⌜ BeginsAt (bodyOf (now (file .entry))) number r ⌝ }
+{
+    let end = file.len() - 4;
+    start_of(&file[..end], number)
+}
+
 // The words of a clause of an accepted file.
 fn clause_part(file: &[u32], number: usize) -> &[u32]
     requires { ⌜ (judge (now file) .status ≡ 0) × (number < judge (now file) .clauses) ⌝ }
     ensures { λ r. ⌜ Stands (file .entry) (partFrom (now (file .entry)) (getD (clauseStarts (now (file .entry))) number 0)) r ⌝ }
 {
-    let end = file.len() - 4;
-    let start = start_of(&file[..end], number);
+    let start = clause_start(file, number);
     let stop = start + (fields::wide(fields::following(file[start])) + 1);
     &file[start..stop]
 }
@@ -199,4 +207,19 @@ pub fn lookup(file: &[u32], number: usize) -> &[u32]
         return &file[0..0];
     }
     clause_part(file, number)
+}
+
+// Where the part that lookup hands back begins in the file; 0 where the file or the number is refused.
+pub fn place(file: &[u32], number: usize) -> u32
+    ensures { λ r. ⌜ r ≡ clausePart (now (file .entry)) number .start ⌝ }
+{
+    let judged = judge(file);
+    let clauses = judged.clauses;
+    if judged.status != 0 {
+        return 0;
+    }
+    if clauses <= number {
+        return 0;
+    }
+    clause_start(file, number) as u32
 }

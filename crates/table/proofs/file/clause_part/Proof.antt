@@ -9,8 +9,6 @@ pub clause-part-spec : {M : Type 1} → statement M
 clause-part-spec =
     tie.close
     (tie.spec
-    (λ c. search all)
-    (λ c. search all)
     (λ c κs. search all)
     (λ c. search all)
     (λ c. search all)
