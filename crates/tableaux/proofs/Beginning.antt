@@ -2,7 +2,6 @@
 use mathlib.Core.Path.{_≡_, refl, sym, ap, ap₂, _∙_}
 use mathlib.Core.List.{List, [], _++_, map, append-nil}
 use Prim.Native.Nat.{ℕ, _+_, _*_, _≤_, _<_}
-use native.Mathlib.Nat.{zero-add}
 use native.Mathlib.Omega.{arith}
 use borrow.Author.Tests.{eq-eqb, ne-eqb}
 use lib.ListN.{length, take, drop, getD, set, replicate, length-set, length-append, length-replicate, length-drop, getD-replicate, List·getD-append}
@@ -22,23 +21,23 @@ use Rattle.tableaux.proofs.Literals.{clause-some, clause-few, hanging-a
 use Rattle.tableaux.proofs.Hung.{hung-copies, hung-start, hung-carries, hung-good, hung-noted, hung-open, hung-high}
 use Rattle.tableaux.proofs.Extending.{hang-length}
 
--- words that were cleared
-module _ {n : ℕ} (m : List ℕ) {m₀ : List ℕ} (size : length m ≡ n) (e : m₀ ≡ take 0 m ++ replicate n 0 ++ drop (0 + n) m) where
-  pub cleared-length : length m₀ ≡ n
+-- the first words cleared
+module _ (m : List ℕ) (count : ℕ) {m₀ : List ℕ} {size : ℕ} (inside : count ≤ size) (sized : length m ≡ size) (e : m₀ ≡ take 0 m ++ replicate count 0 ++ drop (0 + count) m) where
+  pub cleared-length : length m₀ ≡ size
   cleared-length =
-      ap length e ∙ length-append (replicate n 0) (drop (0 + n) m) ∙ rw (length-replicate, length-drop, zero-add, size) (omega arith)
+      ap length e ∙ length-append (replicate count 0) (drop (0 + count) m) ∙ rw (length-replicate, length-drop, sized) (omega arith)
 
-  pub cleared-zero : (i : ℕ) → i < n → getD m₀ i 0 ≡ 0
+  pub cleared-zero : (i : ℕ) → i < count → getD m₀ i 0 ≡ 0
   cleared-zero i h =
       ap (λ (l : List ℕ). getD l i 0) e
-      ∙ List·getD-append (replicate n 0) (drop (0 + n) m) 0 i (rw length-replicate h)
-      ∙ getD-replicate n i 0 0 h
+      ∙ List·getD-append (replicate count 0) (drop (0 + count) m) 0 i (rw length-replicate h)
+      ∙ getD-replicate count i 0 0 h
 
-module _ {f : List ℕ} {question : ℕ} (m₀ : List ℕ) (size : length m₀ ≡ 16384) (zeros : (i : ℕ) → i < 16384 → getD m₀ i 0 ≡ 0) (clause : ClauseAt f question) where
+module _ {f : List ℕ} {question : ℕ} (m₀ : List ℕ) (size : length m₀ ≡ 16384) (zeros : (i : ℕ) → i < 2816 → getD m₀ i 0 ≡ 0) (clause : ClauseAt f question) where
   abbrev one : List ℕ
   one = set (set m₀ 0 question) 33 1
 
-  one-other : (i : ℕ) → (i ≡ 33 → ⊥) → (i ≡ 0 → ⊥) → i < 16384 → getD one i 0 ≡ 0
+  one-other : (i : ℕ) → (i ≡ 33 → ⊥) → (i ≡ 0 → ⊥) → i < 2816 → getD one i 0 ≡ 0
   one-other i a b l = getD-set-other (set m₀ 0 question) 33 i 1 0 a ∙ getD-set-other m₀ 0 i question 0 b ∙ zeros i l
 
   one-copies : copiesOf one ≡ 1

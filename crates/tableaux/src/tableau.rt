@@ -134,7 +134,7 @@ pub fn begin(file: &[u32], work: &mut [u32], question: u32) -> Place
     requires { ⌜ (length (now work) ≡ 16384) × ClauseAt (now file) question ⌝ }
     ensures { λ r. ⌜ Begun (now (file .entry)) (now (work .exit)) question r ⌝ }
 {
-    memory::clear(work, 0, memory::ROOM);
+    memory::clear(work, 0, memory::USED);
     work[memory::STARTS] = question;
     work[memory::COPIES] = 1;
     let count = literals_at(file, question);

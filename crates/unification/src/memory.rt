@@ -7,6 +7,8 @@ ghost use Rattle.unification.specs.State.{startAt, countOf};
 ghost use Rattle.unification.specs.Good.{Inside, wordAt, variableAt, pushed};
 
 pub const ROOM: usize = 16384;
+// The places below end here; no word from here on is read.
+pub const USED: usize = 2816;
 
 // The position of each copy's clause word in the file, by copy.
 pub const STARTS: usize = 0;
