@@ -1,10 +1,10 @@
 -- The search of an accepted file: what it begins with, and what it comes to.
 use mathlib.Core.Path.{_≡_, sym, ap, _∙_}
-use mathlib.Core.List.{List, [], _∷_, _++_}
+use mathlib.Core.List.{List, [], _∷_}
 use Prim.Native.Nat.{ℕ, _+_, _-_, _^_, _≤_, _<_}
 use native.Mathlib.Omega.{arith}
 use borrow.Author.Tests.{eq-eqb}
-use lib.ListN.{length, take, drop, getD, replicate}
+use lib.ListN.{length, take, getD}
 use Rattle.table.specs.Body.{lastOf, starts}
 use Rattle.table.specs.File.{judge, tableIn}
 use Rattle.table.specs.Syntax.{Clause}
@@ -25,7 +25,6 @@ use Rattle.engine.specs.declared.search.Searched.{Searched}
 use Rattle.engine.specs.declared.search.Task.{Task}
 use Rattle.tableaux.specs.declared.tableau.Place.{Place}
 use Rattle.engine.proofs.Places.{question-placed}
-use Rattle.engine.proofs.Cleared.{part-same, cleared-length, cleared-before, cleared-ended}
 
 -- an accepted file
 module _ (f : List ℕ) (z : judge f .status ≡ 0) {question : ℕ} (eq : question ≡ judge f .question) where
@@ -94,14 +93,13 @@ module _ (f : List ℕ) (z : judge f .status ≡ 0) {question : ℕ} (eq : quest
       deep budget =
           any-depth-says (tableIn f) bound 200 budget (omega (arith, at-most-199-left (tableIn f) (accepted-within f z (words-each f small)) bound low))
 
-      module _ {m₁ m₂ : List ℕ} {budget : ℕ} {r : Searched} (treated : Treated f m m₁ task place budget r)
-          (wipes : m₂ ≡ take 2240 m₁ ++ replicate 528 0 ++ drop (2240 + 528) m₁) where
-        pub find-ends : Ends (r .ending) f m₂ question bound budget r
+      module _ {m′ : List ℕ} {budget : ℕ} {r : Searched} (treated : Treated f m m′ task place budget r) where
+        pub find-ends : Ends (r .ending) f m′ question bound budget r
         unfolding reported check
         find-ends = go (r .ending) (treated .leaves) (treated .tells (begin (tableIn f)) stands 199 enough)
           where
-            go : (e : Ending) → Leaves e f m m₁ place r → Tells e f m₁ task place r (begin (tableIn f)) (search (plays (tableIn f) bound) 200 budget (begin (tableIn f)))
-                → Ends e f m₂ question bound budget r
+            go : (e : Ending) → Leaves e f m m′ place r → Tells e f m′ task place r (begin (tableIn f)) (search (plays (tableIn f) bound) 200 budget (begin (tableIn f)))
+                → Ends e f m′ question bound budget r
             go Found l h =
                 let steps : r .steps ≡ length (h .path) = omega (arith, h .count, begun .steps) in
                 let from : 1984 + place .steps ≡ 1984 = omega (arith, begun .steps) in
@@ -112,11 +110,15 @@ module _ (f : List ℕ) (z : judge f .status ≡ 0) {question : ℕ} (eq : quest
                   within = treated .within;
                   count = steps;
                   few = l .few;
-                  noted =
-                      part-same m₁ m₂ 1984 (r .steps) (cleared-length (l .good) wipes) (λ i k. cleared-before (l .good) wipes i (omega (arith, l .few)))
-                      ∙ rw steps (rw from at (h .noted));
+                  noted = rw steps (rw from at (h .noted));
                   passes = h .passes 0;
-                  ended = cleared-ended (l .good) wipes (h .play) (h .bindings) (rw question-last (h .questions));
+                  ended =
+                      record {
+                        good = l .good;
+                        bindings = h .bindings;
+                        questions = rw question-last (h .questions);
+                        unnumbered = λ v k. l .marks v k ∙ begun .unnumbered v k;
+                      };
                 }
             go Nothing l h = (deep budget ∙ ap (reported budget) h, treated .within)
             go Out l h = deep budget ∙ ap (reported budget) h

@@ -12,7 +12,6 @@ pub mod CopyWords
 pub mod Questions
 pub mod Counting
 pub mod KeptItems
-pub mod Cleared
 pub mod Writing
 pub mod WritingTerms
 pub mod WritingAll

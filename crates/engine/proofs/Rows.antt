@@ -127,7 +127,7 @@ module _ {f m₀ : List ℕ} {task : Task} {place : Place} (treats : Treats f m�
           }
         where
           left-so : (e : Ending) → (e ≡ Nothing → ⊥) → Leaves e f m m′ place r → Leaves e f m₀ m′ place r
-          left-so Found s l = record { good = l .good; few = l .few; earlier = λ i h. l .earlier i h ∙ rowing .again .later .steps i h }
+          left-so Found s l = record { good = l .good; few = l .few; earlier = λ i h. l .earlier i h ∙ rowing .again .later .steps i h; marks = λ v h. l .marks v h ∙ rowing .again .later .marks v h }
           left-so Nothing s l = absurd (s refl)
           left-so Out s l = tt
 

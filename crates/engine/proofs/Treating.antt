@@ -56,6 +56,7 @@ module _ {f m : List ℕ} {task : Task} {place : Place} (treats : Treats f m tas
                 good = treats .ready .good;
                 few = omega (arith, treats .ready .taken, treats .ready .room, treats .ready .good .copies);
                 earlier = λ i l. refl;
+                marks = λ v l. refl;
               };
           within = omega arith;
           tells = λ p stands depth enough.
@@ -173,7 +174,7 @@ module _ {f m : List ℕ} {task : Task} {place : Place} (treats : Treats f m tas
             }
           where
             go : (e : Ending) → Leaves e f m₁ m₂ place r₂ → Leaves e f m m₂ place r₂
-            go Found l = record { good = l .good; few = l .few; earlier = λ i h. l .earlier i h ∙ back .later .steps i h }
+            go Found l = record { good = l .good; few = l .few; earlier = λ i h. l .earlier i h ∙ back .later .steps i h; marks = λ v h. l .marks v h ∙ back .later .marks v h }
             go Nothing l = again-then back l
             go Out l = tt
 

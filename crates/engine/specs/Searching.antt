@@ -18,7 +18,7 @@ use Rattle.rules.specs.Tableau.{Leaf, ancestor}
 use Rattle.rules.specs.Verdict.{finds-none, runs-out}
 use Rattle.table.specs.File.{tableIn}
 use Rattle.engine.specs.Ended as ended
-use Rattle.unification.specs.State.{copiesOf, countOf, stepAt, literalAtReference, bound}
+use Rattle.unification.specs.State.{copiesOf, countOf, stepAt, markAt, literalAtReference, bound}
 use Rattle.unification.specs.Good.{wordAt, LiteralStands, Good, Undone}
 use Rattle.tableaux.specs.Leaves.{leafAt, questionsAmong}
 use Rattle.tableaux.specs.Ready.{openLeaves, Ready, Stands, Later, leafOf}
@@ -114,11 +114,12 @@ pub record Again (f m m′ : List ℕ) (place : Place) : Type 0 where
 abbrev pub without : Ending → ℕ → Searched
 without ending left = record { ending = ending; left = left; steps = 0 }
 
--- a proof was found from a place on: the steps to it are noted, and the work words hold what it comes to
+-- a proof was found from a place on: the steps to it are noted, the work words hold what it comes to, and the numbers of variables are as they were
 pub record Noting (f m m′ : List ℕ) (place : Place) (r : Searched) : Type 0 where
   pub good : Good f m′
   pub few : r .steps ≤ 199
   pub earlier : (i : ℕ) → i < place .steps → stepAt m′ i ≡ stepAt m i
+  pub marks : (v : ℕ) → v < 528 → markAt m′ v ≡ markAt m v
 
 pub record Finds (f m′ : List ℕ) (task : Task) (place : Place) (r : Searched) (p : Play) (result : Result Step) : Type 0 where
   pub path : List Step

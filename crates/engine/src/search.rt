@@ -213,7 +213,5 @@ pub fn find(file: &[u32], work: &mut [u32], question: u32, bound: u32, budget: u
     let place = tableau::begin(file, work, question);
     let body = (file.len() - 4) as u32;
     let task = Task { body, bound };
-    let sought = treat(file, work, task, place, budget);
-    memory::clear(work, memory::NUMBERS, 528);
-    sought
+    treat(file, work, task, place, budget)
 }

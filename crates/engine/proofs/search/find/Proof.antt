@@ -1,4 +1,4 @@
--- The search of an accepted file: the start, the leaves treated, and the numbers cleared for the answer.
+-- The search of an accepted file: the start, and the leaves treated.
 use borrow.Author.Needs.{needs}
 use native.Mathlib.Omega.{arith}
 use Rattle.engine.proofs.Finding.{file-least, file-most, question-clause, find-treats, find-ends}
@@ -13,6 +13,5 @@ find-spec =
     (λ c. omega (arith, file-least (c .before .before .before .before .before .before .args .file .now) (c .before .before .before .before .before .before .pre .1) (c .before .before .before .before .before .before .pre .2)))
     (λ c. omega (arith, file-most (c .before .before .before .before .before .before .args .file .now) (c .before .before .before .before .before .before .pre .1) (c .before .before .before .before .before .before .pre .2)))
     (λ c κs. find-treats (c .before .before .before .before .before .before .before .args .file .now) (c .before .before .before .before .before .before .before .pre .1) (c .before .before .before .before .before .before .before .pre .2) (λ i. c .before .before .before .before .before .before .shared-slice-known .given i .fits) (c .before .before .before .before .before .before .before .pre .3) (c .before .before .before .begin .ensures))
-    (λ c κs. search needs)
     (λ c. search needs)
-    (λ c. find-ends (c .before .before .before .before .before .before .before .before .before .before .before .before .before .before .args .file .now) (c .before .before .before .before .before .before .before .before .before .before .before .before .before .before .pre .1) (c .before .before .before .before .before .before .before .before .before .before .before .before .before .before .pre .2) (λ i. c .before .before .before .before .before .before .before .before .before .before .before .before .before .shared-slice-known .given i .fits) (c .before .before .before .before .before .before .before .before .before .before .before .before .before .before .pre .3) (c .before .before .before .before .before .before .before .before .before .before .begin .ensures) (c .before .before .before .before .before .before .treat .ensures) (c .before .before .clear .ensures)))
+    (λ c. find-ends (c .before .before .before .before .before .before .before .before .before .before .args .file .now) (c .before .before .before .before .before .before .before .before .before .before .pre .1) (c .before .before .before .before .before .before .before .before .before .before .pre .2) (λ i. c .before .before .before .before .before .before .before .before .before .shared-slice-known .given i .fits) (c .before .before .before .before .before .before .before .before .before .before .pre .3) (c .before .before .before .before .before .before .begin .ensures) (c .before .before .treat .ensures)))
