@@ -3,7 +3,7 @@ use mathlib.Core.Bool.{Bool, true, false, cond, not, _&&_}
 use mathlib.Core.List.{List, [], _∷_, map}
 use mathlib.Core.Option.{none, some}
 use mathlib.Core.Path.{_≡_}
-use Prim.Native.Nat.{ℕ, _+_, _-_, _^_, _≤_, _<_}
+use Prim.Native.Nat.{ℕ, suc, _+_, _-_, _^_, _≤_, _<_}
 use lib.Dec.{eqb}
 use lib.ListN.{length, take, drop, getD, getElem?}
 use Rattle.words.specs.Fields.{kindOf, arityOf, negativeOf, variablesOf, literalShaped}
@@ -33,6 +33,22 @@ pastWord s w = pastBy (eqb (kindOf w) 3) (eqb (kindOf w) 2) s
 unfoldable pub pastWords : Scan → List ℕ → Scan
 pastWords s [] = s
 pastWords s (w ∷ ws) = pastWords (pastWord s w) ws
+
+-- how many words stand before the first that is wanted; all, where none is
+unfoldable pub wordsBefore : ℕ → List ℕ → ℕ
+wordsBefore wanted [] = 0
+wordsBefore wanted (w ∷ ws) = cond (eqb w wanted) 0 (suc (wordsBefore wanted ws))
+
+-- how many words are of a kind
+unfoldable pub ofKind : ℕ → List ℕ → ℕ
+ofKind kind [] = 0
+ofKind kind (w ∷ ws) = cond (eqb (kindOf w) kind) (suc (ofKind kind ws)) (ofKind kind ws)
+
+-- the last clause word among these
+pub record LastClause (words : List ℕ) (at : ℕ) : Type 0 where
+  pub inside : at < length words
+  pub here : kindOf (getD words at 0) ≡ 3
+  pub none : ofKind 3 (drop (at + 1) words) ≡ 0
 
 -- the scans that stand at a wanted word, in order
 unfoldable pub entriesFrom : ℕ → Scan → List ℕ → List Scan
