@@ -1,6 +1,6 @@
 -- The outcomes of a scan of the body, one law for each, with premises as the code has them.
 use mathlib.Core.Path.{_≡_, refl, sym, ap, _∙_}
-use mathlib.Core.Bool.{Bool, true, false, cond, _&&_, and-eq-true-iff}
+use mathlib.Core.Bool.{Bool, true, false, cond, _&&_, _||_, and-eq-true-iff}
 use mathlib.Core.List.{List, [], _∷_, _++_}
 use Prim.Native.Nat.{ℕ, suc, _+_, _-_, _*_, _^_, _≤_, _<_}
 use native.Mathlib.Numerals.{add-one}
@@ -9,11 +9,11 @@ use lib.Bits.{bitXor, xor-add-and, and-high}
 use lib.Dec.{eqb}
 use lib.ListN.{length, take, drop, getD, length-drop, take-append-drop, drop-of-length-le}
 use lib.Seq.{length-take-le, drop-length, take-all, take-suc, take-add, take-take, drop-at, drop-drop, getD-take, getD-drop}
-use borrow.Author.Tests.{eq-eqb, ne-eqb, eqb-true}
+use borrow.Author.Tests.{eq-eqb, ne-eqb, eqb-true, eqb-false}
 use Rattle.words.specs.Fields.{kindOf, signOf, negativeOf, signBit}
 use Rattle.words.proofs.Packed.{bits-small, sign-bit}
 use Rattle.table.proofs.Terms.{from-place}
-use Rattle.rules.proofs.Unify.Tests.{decide}
+use Rattle.rules.proofs.Unify.Tests.{decide, never}
 use Rattle.tableaux.specs.declared.candidates.Scan.{Scan}
 use Rattle.tableaux.specs.declared.candidates.Candidate.the-variants.{Done}
 use Rattle.tableaux.specs.Scanning.{begun, pastBy, pastWord, pastWords, wordsBefore, ofKind, LastClause, entriesFrom, Standing, NextEntry, isEntry, entryFrom, EntryAt, otherSign}
@@ -152,6 +152,55 @@ module _ (words : List ℕ) (wanted at : ℕ) (h : at < length words) (inv : wor
 pub before-all : (words : List ℕ) (wanted at : ℕ) → length words ≤ at → wordsBefore wanted words ≡ at + wordsBefore wanted (drop at words) → at ≡ wordsBefore wanted words
 unfolding wordsBefore
 before-all words wanted at h inv = sym (inv ∙ rw (drop-of-length-le words {i = at} h) (omega arith))
+
+-- a row of words with none that is wanted
+neither : (a b : Bool) → a || b ≡ false → (a ≡ false) × (b ≡ false)
+neither true b e = absurd (never refl e)
+neither false b e = (refl, e)
+
+pub record Unmet (words : List ℕ) (wanted : ℕ) (among : Bool) (at : ℕ) : Type 0 where
+  pub within : at ≤ length words
+  pub same : among ≡ false → wordsBefore wanted words ≡ at + wordsBefore wanted (drop at words)
+
+module _ (words : List ℕ) (wanted : ℕ) where
+  pub unmet-begin : Unmet words wanted false 0
+  unmet-begin = record { within = omega arith; same = λ _. omega arith }
+
+  module _ {among : Bool} {at : ℕ} (g : Unmet words wanted among at) where
+    pub unmet-next : at < length words → Unmet words wanted (among || eqb (getD words at 0) wanted) (at + 1)
+    unmet-next h = record {
+      within = omega arith;
+      same = λ e.
+          let both = neither among (eqb (getD words at 0) wanted) e in
+          before-next words wanted at h (g .same (both .0)) (eqb-false (getD words at 0) wanted (both .1));
+    }
+
+    pub unmet-all : length words ≤ at → among ≡ false → wordsBefore wanted words ≡ length words
+    unmet-all h e = sym (before-all words wanted at h (g .same e)) ∙ omega (arith, g .within)
+
+pub ruleset unmet-laws = (unmet-begin, unmet-next, unmet-all)
+
+before-part : (wanted : ℕ) (ws vs : List ℕ) → wordsBefore wanted ws ≡ length ws → wordsBefore wanted (ws ++ vs) ≡ length ws + wordsBefore wanted vs
+unfolding wordsBefore
+before-part wanted [] vs h = omega arith
+before-part wanted (w ∷ ws) vs h =
+    decide (eqb w wanted)
+    (λ e. let z : 0 ≡ suc (length ws) = rw e at h in absurd (omega arith))
+    (λ e.
+    let rest : suc (wordsBefore wanted ws) ≡ suc (length ws) = rw e at h in
+    rw e (omega (arith, before-part wanted ws vs (omega arith))))
+
+pub eight-next : (words : List ℕ) (wanted at : ℕ) → at + 8 ≤ length words → wordsBefore wanted words ≡ at + wordsBefore wanted (drop at words)
+    → {among : Bool} → (among ≡ false → wordsBefore wanted (take (at + 8 - at) (drop at words)) ≡ length (take (at + 8 - at) (drop at words))) → among ≡ false
+    → wordsBefore wanted words ≡ at + 8 + wordsBefore wanted (drop (at + 8) words)
+eight-next words wanted at h inv says e =
+    let count : at + 8 - at ≡ 8 = omega arith in
+    let part : wordsBefore wanted (take 8 (drop at words)) ≡ length (take 8 (drop at words)) = rw count at (says e) in
+    let long : length (take 8 (drop at words)) ≡ 8 = length-take-le 8 (drop at words) (omega (arith, length-drop at words)) in
+    let split = before-part wanted (take 8 (drop at words)) (drop 8 (drop at words)) part in
+    inv
+    ∙ omega
+    (arith, ap (wordsBefore wanted) (take-append-drop 8 (drop at words)), split, long, ap (wordsBefore wanted) (drop-drop 8 at words))
 
 -- how many words are of a kind, and how far their count has come
 pub kind-most : (kind : ℕ) (ws : List ℕ) → ofKind kind ws ≤ length ws

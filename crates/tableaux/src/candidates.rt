@@ -1,8 +1,9 @@
 // The extensions of a leaf, found by the literal's word: by clause, then literal.
 use words::fields;
+ghost use mathlib.Core.Bool.{false};
 ghost use mathlib.Core.Path.{_≡_};
 ghost use Prim.Native.Nat.{_+_, _≤_, _<_};
-ghost use lib.ListN.{length, take};
+ghost use lib.ListN.{length, take, drop};
 ghost use Rattle.tableaux.specs.Scanning.{begun, pastWord, pastWords, wordsBefore, ofKind, LastClause, Standing, IsNext, isEntry, IsEntry, otherSign};
 
 // Where a scan of the body stands: the next word, the clauses begun before it, where the latest begins, and its literals before the next word.
@@ -60,12 +61,40 @@ pub fn past(scan: Scan, word: u32) -> Scan
     }
 }
 
+// One of these words is wanted.
+fn is_among(words: &[u32], wanted: u32) -> bool
+    ensures { λ r. ⌜ (r ≡ false → wordsBefore wanted (now (words .entry)) ≡ length (now (words .entry))) ⌝ }
+{
+    let mut among = false;
+    let mut at: usize = 0;
+    while at < words.len() {
+        among = among | (words[at] == wanted);
+        at += 1;
+    }
+    among
+}
+
+// A place that no wanted word stands before, found eight words at a time.
+fn eights_before(words: &[u32], wanted: u32) -> usize
+    requires { ⌜ length (now words) < 4294967296 ⌝ }
+    ensures { λ r. ⌜ (r ≤ length (now (words .entry))) × (wordsBefore wanted (now (words .entry)) ≡ r + wordsBefore wanted (drop r (now (words .entry)))) ⌝ }
+{
+    let mut at: usize = 0;
+    while at + 8 <= words.len() {
+        if is_among(&words[at..at + 8], wanted) {
+            return at;
+        }
+        at += 8;
+    }
+    at
+}
+
 // How many words stand before the first that is wanted; all, where none is.
 fn words_before(words: &[u32], wanted: u32) -> u32
     requires { ⌜ length (now words) < 4294967296 ⌝ }
     ensures { λ r. ⌜ r ≡ wordsBefore wanted (now (words .entry)) ⌝ }
 {
-    let mut at: usize = 0;
+    let mut at = eights_before(words, wanted);
     while at < words.len() {
         if words[at] == wanted {
             return at as u32;

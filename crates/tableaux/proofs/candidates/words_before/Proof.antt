@@ -22,6 +22,7 @@ words-before-spec =
     (tie.spec
     Inv-loop
     μ-loop
+    (λ c κs. search all)
     (λ c. search all)
     (λ c. search all)
     (λ c. search all)
