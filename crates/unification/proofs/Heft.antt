@@ -7,36 +7,38 @@ use mathlib.Core.Path.{_≡_, sym, _∙_, ap}
 use native.Mathlib.Nat.{mul-le-mul-right, suc-mul}
 use native.Mathlib.Omega.{arith}
 use Prim.Native.Nat.{ℕ, suc, _+_, _*_, _-_, _≤_, _<_}
+use Rattle.words.specs.Fields.{kindOf, arityOf}
 use Rattle.table.specs.Syntax.{under, unders}
 use Rattle.table.specs.Decode.{first, rest}
 use Rattle.rules.specs.Substitution.{Variable}
-use Rattle.rules.specs.Unify.{solution, height, heightAmong, doubled}
+use Rattle.rules.specs.Unify.{solution, height, doubled}
 use Rattle.rules.proofs.Unify.Tests.{decide}
 use Rattle.rules.proofs.Unify.Heights.{heights-under, solution-height, doubled-mono}
 use Rattle.unification.specs.State.{countOf, Points, termOf, termsOf, bindingsOf, bound}
-use Rattle.unification.specs.Good.{Good, Grown}
-use Rattle.unification.proofs.TermLists.{height-first}
-use Rattle.unification.proofs.References.{terms-height, first-terms}
+use Rattle.unification.specs.Good.{wordAt, Good, Grown}
+use Rattle.unification.proofs.TermLists.{peak, peak-height, peak-in-place, height-first}
+use Rattle.unification.proofs.References.{tailOf, terms-height, first-terms, function-first, function-further}
 use Rattle.unification.proofs.Bound.{bindings-length, bindings-low}
 
 -- no term is higher under what is bound
 unfoldable pub tallest : ℕ
 tallest = suc (256 + doubled 528 256)
 
-abbrev pub heightUnder : List ℕ → List ℕ → ℕ → ℕ → ℕ
-heightUnder f m r n = heightAmong (unders (solution (bound f m)) (first n (termsOf f m r)))
+abbrev pub peakUnder : List ℕ → List ℕ → ℕ → ℕ → ℕ
+peakUnder f m r n = peak (unders (solution (bound f m)) (first n (termsOf f m r)))
 
 abbrev pub heft : List ℕ → List ℕ → ℕ → ℕ → ℕ
-heft f m r n = (528 - countOf m) * tallest + heightUnder f m r n
+heft f m r n = (528 - countOf m) * tallest + peakUnder f m r n
 
 abbrev pub heftOf : List ℕ → List ℕ → ℕ → ℕ
 heftOf f m r = (528 - countOf m) * tallest + height (under (solution (bound f m)) (termOf f m r))
 
-pub lower : {f m : List ℕ} → Good f m → (r n : ℕ) → heightUnder f m r n < tallest
+pub lower : {f m : List ℕ} → Good f m → (r n : ℕ) → peakUnder f m r n < tallest
 unfolding tallest
 lower {f} {m} h r n =
     omega (
       arith,
+      peak-height (unders (solution (bound f m)) (first n (termsOf f m r))),
       heights-under (first n (termsOf f m r)) (solution (bound f m)) (doubled 528 256) low,
       height-first n (termsOf f m r),
       terms-height f m r,
@@ -52,15 +54,23 @@ lower {f} {m} h r n =
 
 -- one of the terms, and those after it
 pub heft-first : {f m : List ℕ} {r k : ℕ} → Points f m r (suc k) → heftOf f m r < heft f m r (suc k)
-unfolding height under
+unfolding peak under
 heft-first {f} {m} {r} {k} p = rw (first-terms p k) (omega arith)
+
+-- the arguments of one of the terms in its place
+pub heft-in-place : {f m : List ℕ} {r k : ℕ} → Points f m r (suc k) → (kindOf (wordAt f m r) ≡ 0 → ⊥)
+    → heft f m (r + 1) (arityOf (wordAt f m r) + k) ≤ heft f m r (suc k)
+unfolding peak height under
+heft-in-place {f} {m} {r} {k} p e =
+    rw (function-first p e, ← function-further p e)
+    (omega (arith, peak-in-place (solution (bound f m)) (arityOf (wordAt f m r)) k (tailOf f m r)))
 
 -- as many bindings as before are the same
 pub as-before : {f m m′ : List ℕ} → Grown f m m′ → countOf m ≡ countOf m′ → bound f m′ ≡ bound f m
 as-before {f} {m} {m′} g e = ap (bindingsOf f m′) (sym e) ∙ g .older (countOf m) (omega arith)
 
 pub heft-rest : {f m m′ : List ℕ} {r k : ℕ} (r′ : ℕ) → Grown f m m′ → Points f m r (suc k) → termsOf f m′ r′ ≡ rest 1 (termsOf f m r) → heft f m′ r′ k ≤ heft f m r (suc k)
-unfolding height under
+unfolding peak under
 heft-rest {f} {m} {m′} {r} {k} r′ g p e =
     decide
     (eqb (countOf m) (countOf m′))

@@ -13,6 +13,7 @@ pub mod ThoroughBind
 pub mod Undo
 pub mod Heft
 pub mod Meet
+pub mod InPlace
 pub mod MeetAll
 pub mod Atoms
 pub mod MeetApplied

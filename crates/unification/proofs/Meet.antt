@@ -21,6 +21,7 @@ use Rattle.unification.specs.Good.{wordAt, variableAt, namesVariable, Go
 use Rattle.unification.specs.Thorough.{Quiet, Other, argumentsMet, Applied, Meets}
 use Rattle.unification.specs.declared.unify.Meeting.{Meeting}
 use Rattle.unification.specs.declared.unify.Meeting.the-variants.{Made, Clash}
+use Rattle.unification.proofs.TermLists.{peak-height}
 use Rattle.unification.proofs.References.{variable-term, variable-copy, function-term, function-arity, function-shape, function-next, points-fewer}
 use Rattle.unification.proofs.Walk.{few-variables, inside, small}
 use Rattle.unification.proofs.Bound.{variable-same}
@@ -200,7 +201,7 @@ module _ {f m n : List ℕ} {left right l r : ℕ} (h : Good f m) (k : Quiet f m
             met-falls =
                 let p : height (under (solution (bound f m)) (termOf f m left)) ≡ heightAmong (unders (solution (bound f m)) (first (arityOf (wordAt f m l)) (termsOf f m (l + 1)))) =
                 ap height (sym (follow-solution (bound f m) (termOf f m left) (h .sound)) ∙ ap (under (solution (bound f m))) left-applied) in
-                omega arith
+                omega (arith, peak-height (unders (solution (bound f m)) (first (arityOf (wordAt f m l)) (termsOf f m (l + 1)))))
 
             pub met-applied : {m′ n′ : List ℕ} {o : Meeting} → Meets f m m′ n n′ o (unify (bound f m) (termOf f m l) (termOf f m r)) → Goal m′ n′ o
             met-applied b = meets-as (met-arguments (termOf f m left) (termOf f m right) left-applied right-applied ∙ sym (both-applied .same)) b

@@ -3,19 +3,22 @@ use mathlib.Core.List.{List}
 use mathlib.Core.Path.{_≡_, refl, sym, _∙_, ap, ap₂, subst}
 use native.Mathlib.Omega.{arith}
 use Prim.Native.Nat.{ℕ, suc, _+_, _*_, _-_, _≤_, _<_}
-use Rattle.words.specs.Fields.{arityOf}
+use Rattle.words.specs.Fields.{kindOf, symbolOf, arityOf}
+use Rattle.table.specs.Syntax.{app, _then_, arity}
 use Rattle.table.specs.Decode.{first, rest}
 use Rattle.rules.specs.Unify.{Unified, made, after, unify, unifies}
 use Rattle.rules.proofs.Unify.Laws.{unifies-nil, unifies-then}
 use Rattle.unification.specs.State.{Points, termOf, termsOf, bound}
-use Rattle.unification.specs.Good.{wordAt, Ahead, Good, Grown, Passed, Outcome}
+use Rattle.unification.specs.Good.{wordAt, argumentsOf, Inside, Ahead, Good, Grown, Passed, Outcome}
 use Rattle.unification.specs.Thorough.{Quiet, Arguments, Noting, Meets}
 use Rattle.unification.specs.declared.unify.Meeting.{Meeting}
 use Rattle.unification.specs.declared.unify.Meeting.the-variants.{Made, Clash, Circle}
-use Rattle.unification.proofs.References.{points-fewer, first-terms}
+use Rattle.unification.proofs.References.{tailOf, few, function-first, function-further, function-next, function-arguments, function-arity, points-fewer, first-terms}
+use Rattle.unification.proofs.Walk.{inside, small}
+use Rattle.unification.proofs.InPlace.{unifies-in-place}
 use Rattle.unification.proofs.KeptStarts.{same-terms, same-points, in-copies}
 use Rattle.unification.proofs.Push.{grown-none, grown-then}
-use Rattle.unification.proofs.Heft.{heft, heftOf, heft-first, heft-rest}
+use Rattle.unification.proofs.Heft.{heft, heftOf, heft-first, heft-in-place, heft-rest}
 use Rattle.unification.proofs.Thorough.{noting-none, noting-then}
 
 abbrev pub Pairs : List ℕ → List ℕ → ℕ → ℕ → ℕ → Unified
@@ -66,6 +69,75 @@ module _ {f m₀ n₀ : List ℕ} {left right count : ℕ} where
       all-falls =
           let z : heft f m l more ≡ heft f m l (suc (more - 1)) = ap (heft f m l) one-more in
           omega (arith, heft-first left-points, g .lighter)
+
+      pub all-left-small : l < 8448
+      all-left-small = small (g .grown .good) left-points
+
+      pub all-right-small : r < 8448
+      all-right-small = small (g .grown .good) right-points
+
+      pub all-left-inside : Inside f m l
+      all-left-inside = inside (g .grown .good) left-points
+
+      pub all-right-inside : Inside f m r
+      all-right-inside = inside (g .grown .good) right-points
+
+      pub all-few : more ≤ 256
+      all-few = omega (arith, few left-points)
+
+      -- two applications of one symbol
+      module _ {v w : ℕ} (ev : v ≡ wordAt f m l) (ew : w ≡ wordAt f m r) (k : kindOf v ≡ 1) (e : v ≡ w) where
+        applied : kindOf (wordAt f m l) ≡ 0 → ⊥
+        applied z = omega (arith, ap kindOf ev, k, z)
+
+        right-word : wordAt f m r ≡ wordAt f m l
+        right-word = sym ew ∙ sym e ∙ ev
+
+        abbrev args : ℕ
+        args = arityOf (wordAt f m l)
+
+        right-applied : kindOf (wordAt f m r) ≡ 0 → ⊥
+        right-applied z = applied (sym (ap kindOf right-word) ∙ z)
+
+        right-first : first (suc (more - 1)) (termsOf f m r)
+            ≡ app (symbolOf (wordAt f m l)) (first args (tailOf f m r)) then first (more - 1) (rest args (tailOf f m r))
+        right-first = rw right-word at (function-first right-points right-applied)
+
+        right-further : first (args + (more - 1)) (tailOf f m r) ≡ first (args + (more - 1)) (termsOf f m (r + 1))
+        right-further = rw right-word at (function-further right-points right-applied)
+
+        right-ahead : Ahead f m (r + 1) (args + (more - 1))
+        right-ahead = rw right-word at (function-next right-points right-applied)
+
+        right-arity : arity (first args (tailOf f m r)) ≡ args
+        right-arity = rw right-word at (ap arity (function-arguments right-points right-applied) ∙ function-arity right-points right-applied)
+
+        in-place : Pairs f m l r (suc (more - 1)) ≡ Pairs f m (l + 1) (r + 1) (args + (more - 1))
+        in-place =
+            ap₂ (unifies (bound f m)) (function-first left-points applied) right-first
+            ∙ unifies-in-place (symbolOf (wordAt f m l)) args (more - 1) (tailOf f m l) (tailOf f m r) (bound f m) (g .grown .good .sound)
+            (ap arity (function-arguments left-points applied) ∙ function-arity left-points applied ∙ sym right-arity)
+            ∙ ap₂ (unifies (bound f m)) (function-further left-points applied) right-further
+
+        pub all-in-place : {o : ℕ} → o ≡ more - 1 + argumentsOf (kindOf v) v → Going f m₀ n₀ left right count m n (l + 1) (r + 1) o
+        all-in-place {o} eo =
+            subst
+            (λ (o : ℕ). Going f m₀ n₀ left right count m n (l + 1) (r + 1) o)
+            (sym owed)
+            (record {
+              grown = g .grown;
+              noting = g .noting;
+              quiet = g .quiet;
+              lefts = function-next left-points applied;
+              rights = right-ahead;
+              same = g .same ∙ ap (Pairs f m l r) one-more ∙ in-place;
+              lighter =
+                  let z : heft f m l more ≡ heft f m l (suc (more - 1)) = ap (heft f m l) one-more in
+                  omega (arith, heft-in-place left-points applied, g .lighter);
+            })
+          where
+            owed : o ≡ args + (more - 1)
+            owed = let z : argumentsOf (kindOf v) v ≡ args = rw k (ap arityOf ev) in omega (arith, eo, z)
 
       split : Pairs f m₀ left right count
           ≡ after (unify (bound f m) (termOf f m l) (termOf f m r)) (λ bs. unifies bs (first (more - 1) (rest 1 (termsOf f m l))) (first (more - 1) (rest 1 (termsOf f m r))))

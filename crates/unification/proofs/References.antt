@@ -166,6 +166,15 @@ module _ {f m : List ℕ} {r n : ℕ} (p : Points f m r (suc n)) where
     pub function-arguments : first (arityOf (wordAt f m r)) (tailOf f m r) ≡ first (arityOf (wordAt f m r)) (termsOf f m (r + 1))
     function-arguments = next-first f m r (arityOf (wordAt f m r)) (fewer (omega arith) (after-function .1))
 
+    -- the first terms, and those that stand there with the arguments of the first of them in its place
+    pub function-first : first (suc n) (termsOf f m r)
+        ≡ app (symbolOf (wordAt f m r)) (first (arityOf (wordAt f m r)) (tailOf f m r)) then first n (rest (arityOf (wordAt f m r)) (tailOf f m r))
+    unfolding first
+    function-first = ap (first (suc n)) function-terms
+
+    pub function-further : first (arityOf (wordAt f m r) + n) (tailOf f m r) ≡ first (arityOf (wordAt f m r) + n) (termsOf f m (r + 1))
+    function-further = next-first f m r (arityOf (wordAt f m r) + n) (after-function .1)
+
     pub function-term : termOf f m r ≡ app (symbolOf (wordAt f m r)) (first (arityOf (wordAt f m r)) (termsOf f m (r + 1)))
     unfolding termOf headTerm under tailOf
     function-term =
@@ -218,9 +227,9 @@ module _ {f m : List ℕ} {r n : ℕ} (p : Points f m r (suc n)) where
 
   step-function : (kindOf (wordAt f m r) ≡ 0 → ⊥)
       → variablesAmong (first (suc n) (termsOf f m r)) ≡ variablesAmong (first (arityOf (wordAt f m r) + n) (termsOf f m (r + 1)))
-  unfolding first variables
+  unfolding variables
   step-function e =
-      rw (function-terms e, ← next-first f m r (arityOf (wordAt f m r) + n) (after-function e .1))
+      rw (function-first e, ← function-further e)
       (sym (variables-first (arityOf (wordAt f m r)) n (tailOf f m r)))
 
   pub step-variables : variablesAt f m r ≤ 16

@@ -4,7 +4,7 @@ use mathlib.Core.List.{List, [], _∷_, _++_, append-assoc}
 use mathlib.Core.Path.{_≡_, refl, sym, _∙_, ap, ap₂}
 use native.Mathlib.Nat.{suc-add, zero-add}
 use native.Mathlib.Omega.{arith}
-use Prim.Native.Nat.{ℕ, zero, suc, _+_, _-_, _≤_, _<_}
+use Prim.Native.Nat.{ℕ, zero, suc, _+_, _-_, _≤_, _<_, max}
 use Rattle.table.specs.Syntax.{Term, Terms, var, app, nil, _then_, arity, under, unders}
 use Rattle.table.specs.Decode.{first, rest}
 use Rattle.rules.specs.Substitution.{Variable, Substitution}
@@ -79,6 +79,24 @@ unfolding rest height
 height-rest zero ts = omega arith
 height-rest (suc a) nil = omega arith
 height-rest (suc a) (t then ts) = omega (arith, height-rest a ts)
+
+-- the height of the highest term, and one
+unfoldable pub peak : Terms Variable → ℕ
+peak nil = zero
+peak (t then ts) = max (suc (height t)) (peak ts)
+
+pub peak-height : (ts : Terms Variable) → peak ts ≤ heightAmong ts
+unfolding peak height
+peak-height nil = omega arith
+peak-height (t then ts) = omega (arith, peak-height ts)
+
+-- arguments are lower than the application in whose place they stand
+pub peak-in-place : (σ : Substitution) (a k : ℕ) (ts : Terms Variable)
+    → peak (unders σ (first (a + k) ts)) ≤ max (suc (heightAmong (unders σ (first a ts)))) (peak (unders σ (first k (rest a ts))))
+unfolding first rest under peak height
+peak-in-place σ zero k ts = rw zero-add (omega arith)
+peak-in-place σ (suc a) k nil = rw (suc-add, first-nil {X = Variable} k) (omega arith)
+peak-in-place σ (suc a) k (t then ts) = rw suc-add (omega (arith, peak-in-place σ a k ts))
 
 -- a variable occurs in a term exactly if it occurs in what stands for one of the term's variables
 pub occursIn-append : (x : Variable) (σ : Substitution) (ys zs : List Variable) → occursIn x σ (ys ++ zs) ≡ occursIn x σ ys || occursIn x σ zs

@@ -35,17 +35,20 @@ small h p = omega (arith, p .made, h .copies)
 
 -- so many terms are owed from a place on, until the term at a reference has been passed
 pub record Walked (f m : List ℕ) (r at owed : ℕ) : Type 0 where
+  pub low : r ≤ at
+  pub begun : r < at + owed
   pub ahead : (n : ℕ) → Points f m r (suc n) → Ahead f m at (owed + n)
   pub terms : (n : ℕ) → Points f m r (suc n) → 0 < owed + n → rest owed (termsOf f m at) ≡ rest 1 (termsOf f m r)
 
 module _ {f m : List ℕ} {r : ℕ} where
   pub walk-begin : Walked f m r r 1
-  walk-begin = record { ahead = λ n p h. rw (one-add n) p; terms = λ n p h. refl }
+  walk-begin = record { low = omega arith; begun = omega arith; ahead = λ n p h. rw (one-add n) p; terms = λ n p h. refl }
 
   module _ {at owed : ℕ} (g : Walked f m r at owed) where
     pub walk-done : owed ≡ 0 → Passed f m r at
     unfolding rest
     walk-done e = record {
+      later = omega (arith, g .begun);
       points = λ n p. let z : owed + suc n ≡ suc n = omega arith in rw z at (g .ahead (suc n) p (omega arith));
       terms = λ n p. rw e at (g .terms (suc n) p (omega arith));
     }
@@ -67,6 +70,8 @@ module _ {f m : List ℕ} {r : ℕ} where
       pub walk-on : {w o : ℕ} → w ≡ wordAt f m at → o ≡ owed - 1 + argumentsOf (kindOf w) w → Walked f m r (at + 1) o
       walk-on {w} {o} ew eo =
           record {
+            low = omega (arith, g .low);
+            begun = omega (arith, g .low);
             ahead = λ n p l. rw (count-on n) at (step-points (owing n p) (omega (arith, count-on n)));
             terms = λ n p l.
                 ap (λ (k : ℕ). rest k (termsOf f m (at + 1))) (count-rest)

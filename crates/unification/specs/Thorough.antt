@@ -1,4 +1,4 @@
--- Machinery: what a comparison notes for itself, so that it looks into nothing twice. No public contract speaks of it.
+-- Machinery: what a comparison notes for itself, so that variables lead it into nothing twice. No public contract speaks of it.
 use mathlib.Core.Bool.{Bool, true, false}
 use mathlib.Core.List.{List}
 use mathlib.Core.Path.{_≡_}

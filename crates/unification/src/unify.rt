@@ -21,7 +21,7 @@ pub enum Meeting {
 }
 
 // What a comparison notes for itself. Its first word is how many more terms it may look into. Where that is all, it gives up when none is left,
-// and the comparison starts over with notes of full length, thoroughly: then it looks into no pair of terms twice, and, for one binding, into no variable twice.
+// and the comparison starts over with notes of full length, thoroughly: then variables lead it into no pair of terms twice, and, for one binding, it looks into no variable twice.
 const BRIEF: u32 = 1024;
 
 const FULL: usize = 8977;
@@ -242,7 +242,17 @@ fn meet_applied(file: &[u32], work: &mut [u32], notes: &mut [u32], left: u32, ri
     Meeting::Made
 }
 
-// The arguments of two applications, or of two literals, of one arity, from left to right.
+// Whether two words are the same, a function's or a constant's.
+fn same_function(word: u32, other: u32) -> bool
+    ensures { λ r. ⌜ (r ≡ true → (kindOf word ≡ 1) × (word ≡ other)) ⌝ }
+{
+    if fields::kind(word) != 1 {
+        return false;
+    }
+    word == other
+}
+
+// The arguments of two applications, or of two literals, of one arity, from left to right. In place of two applications of one symbol stand their arguments.
 fn meet_all(file: &[u32], work: &mut [u32], notes: &mut [u32], left: u32, right: u32) -> Meeting
     requires { ⌜ Good (now file) (now work) × Quiet (now file) (now work) (now notes) × Arguments (now file) (now work) left right ⌝ }
     ensures { λ r. ⌜ Meets (now (file .entry)) (now (work .entry)) (now (work .exit)) (now (notes .entry)) (now (notes .exit)) r (argumentsMet (now (file .entry)) (now (work .entry)) left right) ⌝ }
@@ -251,6 +261,13 @@ fn meet_all(file: &[u32], work: &mut [u32], notes: &mut [u32], left: u32, right:
     let mut r = right + 1;
     let mut more = fields::arity(memory::word_at(file, work, left));
     while more != 0 {
+        let word = memory::word_at(file, work, l);
+        if same_function(word, memory::word_at(file, work, r)) {
+            more = terms::owed_after(more, word);
+            l += 1;
+            r += 1;
+            continue;
+        }
         let met = meet(file, work, notes, l, r);
         let Meeting::Made = met else {
             return met;

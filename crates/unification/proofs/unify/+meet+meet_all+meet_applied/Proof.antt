@@ -6,7 +6,7 @@ use denote.Enum.Declared.{tagOf, declared}
 use mathlib.Core.Logic.{_⊎_, inl, inr}
 use mathlib.Core.Path.{_≡_, refl, sym, _∙_}
 use native.Mathlib.Omega.{arith}
-use Prim.Native.Nat.{ℕ, _+_, _*_, _<_}
+use Prim.Native.Nat.{ℕ, _+_, _*_, _-_, _<_}
 use Rattle.words.specs.Fields.{arityOf}
 use Rattle.unification.specs.Good.{wordAt}
 use Rattle.unification.specs.declared.unify.Meeting.{Meeting}
@@ -15,7 +15,7 @@ use Rattle.unification.proofs.unify.Meeting.{enum}
 use Rattle.unification.proofs.Walk.{inside, small}
 use Rattle.unification.proofs.Heft.{heft, heftOf}
 use Rattle.unification.proofs.Meet.{met-same, met-variable, right-binds, right-apart, met-right, left-binds, left-apart, met-left, met-clash, both-applied, met-falls, met-applied}
-use Rattle.unification.proofs.MeetAll.{Going, Stops, all-begin, all-none, all-left, all-right, all-falls, all-stops, all-last, all-left-still, all-right-still, all-on}
+use Rattle.unification.proofs.MeetAll.{Going, Stops, all-begin, all-none, all-left, all-right, all-falls, all-left-small, all-right-small, all-left-inside, all-right-inside, all-few, all-in-place, all-stops, all-last, all-left-still, all-right-still, all-on}
 use Rattle.unification.proofs.MeetApplied.{applied-left, applied-right, applied-known, applied-tired, applied-quiet, applied-met, applied-up, applied-down}
 use Rattle.unification.proofs.unify.meet.Reads as meet
 use Rattle.unification.proofs.unify.meet.Kinds as meet-kinds
@@ -30,9 +30,11 @@ use Rattle.unification.proofs.memory.variable_at.Reads as variable-at
 use Rattle.unification.proofs.memory.word_at.Reads as word-at
 use Rattle.unification.proofs.terms.after.Reads as after
 use Rattle.unification.proofs.terms.follow.Reads as follow
+use Rattle.unification.proofs.terms.owed_after.Reads as owed-after
 use Rattle.unification.proofs.unify.bind.Reads as bind
 use Rattle.unification.proofs.unify.link.Reads as link
 use Rattle.unification.proofs.unify.root.Reads as root
+use Rattle.unification.proofs.unify.same_function.Reads as same-function
 use Rattle.unification.proofs.unify.same_variable.Reads as same-variable
 use Rattle.unification.proofs.unify.spend.Reads as spend
 use Rattle.words.proofs.fields.arity.Reads as arity
@@ -72,7 +74,7 @@ told t =
     (follow.Asked, follow.Learnt, word-at.Asked, word-at.Learnt, kind.Asked, kind.Learnt, variable-at.Asked, variable-at.Learnt, same-variable.Asked, same-variable.Learnt, bind.Asked, bind.Learnt, meet-applied-below t, meet-applied.Post)
 
 abbrev told-all : ℕ → meet-all-lts.Claims
-told-all t = (word-at.Asked, word-at.Learnt, arity.Asked, arity.Learnt, meet-below t, meet.Post, after.Asked, after.Learnt)
+told-all t = (word-at.Asked, word-at.Learnt, arity.Asked, arity.Learnt, same-function.Asked, same-function.Learnt, owed-after.Asked, owed-after.Learnt, meet-below t, meet.Post, after.Asked, after.Learnt)
 
 abbrev told-applied : ℕ → meet-applied-lts.Claims
 told-applied t = (root.Asked, root.Learnt, spend.Asked, spend.Learnt, meet-all-below t, meet-all.Post, link.Asked, link.Learnt)
@@ -81,7 +83,7 @@ abbrev Inv : meet-all-lts.InvT-loop
 Inv file work₀ notes₀ left right l₀ r₀ more₀ work notes l r more = Going file work₀ notes₀ (left + 1) (right + 1) (arityOf (wordAt file work₀ left)) work notes l r more
 
 abbrev μ : meet-all-lts.MeasureT-loop
-μ file work₀ notes₀ left right l₀ r₀ more₀ work notes l r more = more
+μ file work₀ notes₀ left right l₀ r₀ more₀ work notes l r more = 8448 - l
 
 -- an outcome that is not the first is an end
 stops : (q : Meeting) → (tagOf (declared enum) q ≡ 1) ⊎ (tagOf (declared enum) q ≡ 2) → Stops q
@@ -139,19 +141,27 @@ pub +meet+meet-all+meet-applied-spec : {M : Type 1} → statement M
     (λ c κs. c .before .before .before .before .pre .1 .2 .inside)
     (λ c κs. search needs)
     (λ c. let s = c .before .before .before .before .before .before in all-begin (s .pre .1 .0) (s .pre .1 .1) (s .pre .1 .2) (c .before .word-at .ensures) (c .arity .ensures))
-    (λ c κs. let i = c .before .before .before .loop .inv in let l = c .before .before .loop-test .taken in (omega (arith, all-falls i l, c .before .before .before .before .before .before .before .before .before .before .pre .0), (i .grown .good, i .quiet, all-left i l, all-right i l)))
+    (λ c κs. all-left-inside (c .before .before .loop .inv) (c .before .loop-test .taken))
+    (λ c κs. all-right-inside (c .before .before .before .before .loop .inv) (c .before .before .before .loop-test .taken))
+    (λ c κs. search needs)
+    (λ c κs. (omega (arith, c .before .before .before .before .before .before .loop-test .taken), all-few (c .before .before .before .before .before .before .before .loop .inv) (c .before .before .before .before .before .before .loop-test .taken)))
+    (λ c. omega (arith, all-left-small (c .before .before .before .before .before .before .before .before .loop .inv) (c .before .before .before .before .before .before .before .loop-test .taken)))
+    (λ c. omega (arith, all-right-small (c .before .before .before .before .before .before .before .before .loop .inv) (c .before .before .before .before .before .before .before .loop-test .taken)))
+    (λ c. omega (arith, all-left-small (c .before .before .before .before .before .before .before .before .loop .inv) (c .before .before .before .before .before .before .before .loop-test .taken)))
+    (λ c. let same = c .before .before .same-function .ensures (c .before .if1 .taken) in all-in-place (c .before .before .before .before .before .before .before .before .loop .inv) (c .before .before .before .before .before .before .before .loop-test .taken) (c .before .before .before .before .before .word-at2 .ensures) (c .before .before .before .word-at3 .ensures) (same .0) (same .1) (c .owed-after .ensures))
+    (λ c κs. let i = c .before .before .before .before .before .before .before .before .before .loop .inv in let l = c .before .before .before .before .before .before .before .before .loop-test .taken in (omega (arith, all-falls i l, c .before .before .before .before .before .before .before .before .before .before .before .before .before .before .before .before .pre .0), (i .grown .good, i .quiet, all-left i l, all-right i l)))
     (λ c. search needs)
-    (λ c. c .before .before .before .before .before .meet .kept .1 .0 ∙ c .before .before .before .before .before .before .before .before .before .loop .inv .grown .good .size ∙ sym (c .before .before .before .before .before .before .before .before .before .before .before .before .before .before .before .before .pre .1 .0 .size))
-    (λ c. c .before .before .before .before .before .meet .kept .1 .1 .0 ∙ c .before .before .before .before .before .before .before .before .before .loop .inv .noting .size)
-    (λ c. all-stops (c .before .before .before .before .before .before .before .before .before .loop .inv) (c .before .before .before .before .before .before .before .before .loop-test .taken) (c .before .before .before .before .before .meet .ensures) (stops (c .before .before .before .before .before .meet .result) (c .match .keys2)))
+    (λ c. c .before .before .before .before .before .meet .kept .1 .0 ∙ c .before .before .before .before .before .before .before .before .before .before .before .before .before .before .before .loop .inv .grown .good .size ∙ sym (c .before .before .before .before .before .before .before .before .before .before .before .before .before .before .before .before .before .before .before .before .before .before .pre .1 .0 .size))
+    (λ c. c .before .before .before .before .before .meet .kept .1 .1 .0 ∙ c .before .before .before .before .before .before .before .before .before .before .before .before .before .before .before .loop .inv .noting .size)
+    (λ c. all-stops (c .before .before .before .before .before .before .before .before .before .before .before .before .before .before .before .loop .inv) (c .before .before .before .before .before .before .before .before .before .before .before .before .before .before .loop-test .taken) (c .before .before .before .before .before .meet .ensures) (stops (c .before .before .before .before .before .meet .result) (c .match .keys2)))
     (λ c. omega arith)
-    (λ c. c .before .before .before .before .before .before .before .meet .kept .1 .0 ∙ c .before .before .before .before .before .before .before .before .before .before .before .loop .inv .grown .good .size ∙ sym (c .before .before .before .before .before .before .before .before .before .before .before .before .before .before .before .before .before .before .pre .1 .0 .size))
-    (λ c. c .before .before .before .before .before .before .before .meet .kept .1 .1 .0 ∙ c .before .before .before .before .before .before .before .before .before .before .before .loop .inv .noting .size)
-    (λ c. all-last (c .before .before .before .before .before .before .before .before .before .before .before .loop .inv) (c .before .before .before .before .before .before .before .before .before .before .loop-test .taken) (c .before .before .before .before .before .before .before .meet .ensures) (c .before .enum-told .given .1) (c .if1 .taken))
-    (λ c κs. (c .before .before .before .before .before .before .before .before .meet .ensures .grown .good, all-left-still (c .before .before .before .before .before .before .before .before .before .before .before .before .loop .inv) (c .before .before .before .before .before .before .before .before .before .before .before .loop-test .taken) (c .before .before .before .before .before .before .before .before .meet .ensures) (c .before .before .enum-told .given .1)))
-    (λ c κs. (c .before .before .before .before .before .before .before .before .before .before .meet .ensures .grown .good, all-right-still (c .before .before .before .before .before .before .before .before .before .before .before .before .before .before .loop .inv) (c .before .before .before .before .before .before .before .before .before .before .before .before .before .loop-test .taken) (c .before .before .before .before .before .before .before .before .before .before .meet .ensures) (c .before .before .before .before .enum-told .given .1)))
-    (λ c. omega arith)
-    (λ c. all-on (c .before .before .before .before .before .before .before .before .before .before .before .before .before .before .before .loop .inv) (c .before .before .before .before .before .before .before .before .before .before .before .before .before .before .loop-test .taken) (c .before .before .before .before .before .before .before .before .before .before .before .meet .ensures) (c .before .before .before .before .before .enum-told .given .1) (c .before .before .before .before .if1 .left) (c .before .before .after .ensures) (c .after2 .ensures))
+    (λ c. c .before .before .before .before .before .before .before .meet .kept .1 .0 ∙ c .before .before .before .before .before .before .before .before .before .before .before .before .before .before .before .before .before .loop .inv .grown .good .size ∙ sym (c .before .before .before .before .before .before .before .before .before .before .before .before .before .before .before .before .before .before .before .before .before .before .before .before .pre .1 .0 .size))
+    (λ c. c .before .before .before .before .before .before .before .meet .kept .1 .1 .0 ∙ c .before .before .before .before .before .before .before .before .before .before .before .before .before .before .before .before .before .loop .inv .noting .size)
+    (λ c. all-last (c .before .before .before .before .before .before .before .before .before .before .before .before .before .before .before .before .before .loop .inv) (c .before .before .before .before .before .before .before .before .before .before .before .before .before .before .before .before .loop-test .taken) (c .before .before .before .before .before .before .before .meet .ensures) (c .before .enum-told .given .1) (c .if2 .taken))
+    (λ c κs. (c .before .before .before .before .before .before .before .before .meet .ensures .grown .good, all-left-still (c .before .before .before .before .before .before .before .before .before .before .before .before .before .before .before .before .before .before .loop .inv) (c .before .before .before .before .before .before .before .before .before .before .before .before .before .before .before .before .before .loop-test .taken) (c .before .before .before .before .before .before .before .before .meet .ensures) (c .before .before .enum-told .given .1)))
+    (λ c κs. (c .before .before .before .before .before .before .before .before .before .before .meet .ensures .grown .good, all-right-still (c .before .before .before .before .before .before .before .before .before .before .before .before .before .before .before .before .before .before .before .before .loop .inv) (c .before .before .before .before .before .before .before .before .before .before .before .before .before .before .before .before .before .before .before .loop-test .taken) (c .before .before .before .before .before .before .before .before .before .before .meet .ensures) (c .before .before .before .before .enum-told .given .1)))
+    (λ c. omega (arith, all-left-small (c .before .before .before .before .before .before .before .before .before .before .before .before .before .before .before .before .before .before .before .before .before .loop .inv) (c .before .before .before .before .before .before .before .before .before .before .before .before .before .before .before .before .before .before .before .before .loop-test .taken), c .before .before .after .ensures .later))
+    (λ c. all-on (c .before .before .before .before .before .before .before .before .before .before .before .before .before .before .before .before .before .before .before .before .before .loop .inv) (c .before .before .before .before .before .before .before .before .before .before .before .before .before .before .before .before .before .before .before .before .loop-test .taken) (c .before .before .before .before .before .before .before .before .before .before .before .meet .ensures) (c .before .before .before .before .before .enum-told .given .1) (c .before .before .before .before .if2 .left) (c .before .before .after .ensures) (c .after2 .ensures))
     (λ c. c .before .loop .inv .grown .good .size ∙ sym (c .before .before .before .before .before .before .before .before .pre .1 .0 .size))
     (λ c. c .before .loop .inv .noting .size)
     (λ c. all-none (c .before .loop .inv) (c .loop-test .left)))
