@@ -1,8 +1,10 @@
 -- The outcomes of reading terms, one law for each, with premises as the code has them.
 use mathlib.Core.Path.{_≡_, refl, sym, _∙_}
-use mathlib.Core.Bool.{Bool, true, false}
+use mathlib.Core.Bool.{Bool, true, false, not}
 use mathlib.Core.List.{List, _∷_}
-use Prim.Native.Nat.{ℕ, suc, _+_, _-_, _≤_, _<_}
+use Prim.Native.Nat.{ℕ, suc, _+_, _-_, _^_, _≤_, _<_}
+use mir.Syntax.{w32}
+use mir.Val.{Fits}
 use native.Mathlib.Nat.{zero-add}
 use native.Mathlib.Numerals.{add-one}
 use native.Mathlib.Omega.{arith}
@@ -10,6 +12,7 @@ use lib.Dec.{ltb}
 use lib.ListN.{length, drop, getD, drop-of-length-le}
 use lib.Seq.{drop-cons}
 use Rattle.words.specs.Fields.{numberOf, arityOf, variableShaped, functionShaped}
+use Rattle.table.proofs.Bools.{not-true, not-false}
 use Rattle.table.specs.Reading.{variableFits, termArity, afterTerm, after, stopsShort, onward, fault}
 use Rattle.table.specs.Readers.{goesOn, Lies, TermRead, TermsRead}
 use Rattle.table.specs.declared.read.Reading.{Reading}
@@ -50,6 +53,10 @@ module _ {v : ℕ} {own : List ℕ} {at : ℕ} where
       term-wrong pf =
           record { faults = λ l t. rw (from-place own at h, sym e ∙ p, sym ef ∙ pf); lies = omega arith }
 
+-- the terms left, one fewer, and the arguments that join them
+pub joined-fits : {q : Bool} {n : ℕ} → (q ≡ true → n < 2 ^ 32) → q ≡ true → Fits w32 n
+joined-fits h p = record { fits = h p }
+
 -- how far the reading of so many terms has come: so many are left from the next place on
 pub record Going (v : ℕ) (own : List ℕ) (at many next left : ℕ) : Type 0 where
   pub from : at ≤ next
@@ -81,4 +88,33 @@ module _ {v : ℕ} {own : List ℕ} {at many : ℕ} where
           let lies : Lies (suc next) (length own) (Next further) = rw e at (read .lies) in
           record { from = omega (arith, g .from); within = lies .1; same = λ l t. rw e at (one-fewer l t) }
 
-pub ruleset terms-laws = (term-missing, term-variable, term-function, term-wrong, terms-begin, terms-done, terms-wrong, terms-next)
+      pub terms-nearer : {further : ℕ} → r ≡ Next further → next < length own → length own - further < length own - next
+      terms-nearer {further} e h =
+          let lies : Lies (suc next) (length own) (Next further) = rw e at (read .lies) in omega (arith, lies .0)
+
+    module _ (some : 0 < left) where
+      pub terms-missing : length own ≤ next → TermsRead v own at many (Wrong next)
+      terms-missing h = terms-wrong some (term-missing h (g .within)) refl
+
+      module _ (h : next < length own) {q : Bool} (e : q ≡ variableFits v (getD own next 0)) where
+        pub terms-variable : q ≡ true → Going v own at many (next + 1) (left - 1)
+        terms-variable p = terms-next some (term-variable h e p) refl
+
+        module _ (p : q ≡ false) {f : Bool} (ef : f ≡ functionShaped (getD own next 0)) where
+          pub terms-misfit : not f ≡ true → TermsRead v own at many (Wrong next)
+          terms-misfit pf = terms-wrong some (term-wrong h e p ef (not-true f pf)) refl
+
+          -- a term passed where it stands: its arguments join the terms left
+          pub terms-joined : not f ≡ false → {a : ℕ} → a ≡ arityOf (getD own next 0) → Going v own at many (next + 1) (left - 1 + a)
+          unfolding fault onward after afterTerm termArity
+          terms-joined pf {a} ea =
+              record {
+                from = omega (arith, g .from);
+                within = omega arith;
+                same = λ l t.
+                    let z : left + t ≡ suc (left - 1 + t) = omega arith in
+                    let y : a + (left - 1 + t) ≡ left - 1 + a + t = omega arith in
+                    rw (← y) (rw (z, from-place own next h, sym e ∙ p, sym ef ∙ not-false f pf, ← ea) at (g .same l t));
+              }
+
+pub ruleset terms-laws = (term-missing, term-variable, term-function, term-wrong, terms-begin, terms-done, terms-wrong, terms-next, terms-nearer, terms-missing, terms-variable, terms-misfit, terms-joined, joined-fits)

@@ -1,7 +1,8 @@
 // Reading a clause: terms, literals, the clause. A place is counted from the clause's own word.
 use words::fields;
+ghost use mathlib.Core.Bool.{true};
 ghost use mathlib.Core.Path.{_≡_};
-ghost use Prim.Native.Nat.{_+_, _≤_};
+ghost use Prim.Native.Nat.{_+_, _-_, _^_, _≤_, _<_};
 ghost use lib.ListN.{length, drop, getD};
 ghost use Rattle.table.specs.Reading.{variableFits, clauseFits};
 ghost use Rattle.table.specs.Readers.{TermRead, TermsRead, LiteralRead, LiteralsRead, placeRead, WordsJudged, Judged, placeOf};
@@ -39,6 +40,19 @@ pub(crate) fn term(own: &[u32], at: usize, count: u32) -> Reading
     Reading::Wrong(at)
 }
 
+// Whether a term with so many arguments is passed where it stands: the arguments join the terms left. Every other term is read by a call.
+fn in_place(left: u32, more: u32) -> bool
+    ensures { λ r. ⌜ (r ≡ true → left - 1 + more < 2 ^ 32) ⌝ }
+{
+    if more < 2 {
+        return true;
+    }
+    if left == 1 {
+        return true;
+    }
+    false
+}
+
 // So many terms, one after the other.
 pub(crate) fn arguments(own: &[u32], at: usize, count: u32, many: u32) -> Reading
     requires { ⌜ at ≤ length (now own) ⌝ }
@@ -47,6 +61,24 @@ pub(crate) fn arguments(own: &[u32], at: usize, count: u32, many: u32) -> Readin
     let mut next = at;
     let mut left = many;
     while left > 0 {
+        if own.len() <= next {
+            return Reading::Wrong(next);
+        }
+        let w = own[next];
+        if variable_fits(count, w) {
+            next += 1;
+            left -= 1;
+            continue;
+        }
+        if !fields::function_shaped(w) {
+            return Reading::Wrong(next);
+        }
+        let more = fields::arity(w);
+        if in_place(left, more) {
+            next += 1;
+            left = left - 1 + more;
+            continue;
+        }
         let read = term(own, next, count);
         let Reading::Next(further) = read else {
             return read;

@@ -11,6 +11,7 @@ use Rattle.table.proofs.read.+arguments+term.Lts-arguments as arguments
 use Rattle.table.proofs.read.term.Reads as term
 use Rattle.table.proofs.read.term.Kinds as term-kinds
 use Rattle.table.proofs.read.+arguments+term.Lts-term as term-lts
+use Rattle.table.proofs.read.in_place.Reads as in-place-reads
 use Rattle.table.proofs.read.variable_fits.Reads as variable-fits-reads
 use Rattle.words.proofs.fields.arity.Reads as arity-reads
 use Rattle.words.proofs.fields.function_shaped.Reads as function-shaped-reads
@@ -43,7 +44,10 @@ abbrev Inv : arguments-lts.InvT-loop
 Inv own at count many next₀ left₀ next left = Going count own at many next left
 
 abbrev μ : arguments-lts.MeasureT-loop
-μ own at count many next₀ left₀ next left = left
+μ own at count many next₀ left₀ next left = length own - next
+
+abbrev told-arguments : ℕ → arguments-lts.Claims
+told-arguments t = (variable-fits-reads.Asked, variable-fits-reads.Learnt, function-shaped-reads.Asked, function-shaped-reads.Learnt, arity-reads.Asked, arity-reads.Learnt, in-place-reads.Asked, in-place-reads.Learnt, term-below t, term.Post)
 
 abbrev told : ℕ → term-lts.Claims
 told t = (variable-fits-reads.Asked, variable-fits-reads.Learnt, function-shaped-reads.Asked, function-shaped-reads.Learnt, arity-reads.Asked, arity-reads.Learnt, arguments-below t, arguments.Post)
@@ -54,11 +58,28 @@ pub +arguments+term-spec : {M : Type 1} → statement M
     μ-arguments
     μ-term
     (λ t. arguments-lts.spec
-    (term-below t, term.Post)
+    (told-arguments t)
     (arguments-at t)
     arguments.Post
     Inv
     μ
+    (λ c. search all)
+    (λ c. search all)
+    (λ c. search all)
+    (λ c. search all)
+    (λ c κs. search all)
+    (λ c. search all)
+    (λ c. search all)
+    (λ c. omega arith)
+    (λ c. search all)
+    (λ c κs. search all)
+    (λ c. search all)
+    (λ c κs. search all)
+    (λ c κs. search all)
+    (λ c. search all)
+    (λ c. search all)
+    (λ c. search all)
+    (λ c. omega arith)
     (λ c. search all)
     (λ c κs. omega arith)
     (λ c. search all)
