@@ -12,6 +12,7 @@ use lib.Seq.{take-all, drop-drop}
 use mir.Syntax.{w64}
 use mir.Val.{Fits}
 use borrow.Author.Tests.{eq-eqb, ne-eqb, leb-true}
+use Rattle.words.specs.Fingerprint.{mixed, bytesOf, fingerprint}
 use Rattle.words.specs.Fields.{kindOf, negativeOf, followingOf, clauseShaped}
 use Rattle.table.specs.Reading.{clauseFault}
 use Rattle.table.specs.Body.{reading, bodyFault, starts, lastOf, positive, anyPositive}
@@ -21,6 +22,7 @@ use Rattle.table.specs.declared.Judgement.{Judgement}
 use Rattle.table.specs.declared.read.ClauseRead.{ClauseRead}
 use Rattle.table.specs.declared.read.ClauseRead.the-variants.{Whole, Malformed}
 use Rattle.table.proofs.Bools.{and-right, cond-none}
+use Rattle.table.proofs.Mixing.{mixed-begin, mixed-end}
 use Rattle.table.proofs.Terms.{from-place}
 
 -- passing over words of a clause
@@ -63,20 +65,32 @@ module _ (body : List ℕ) {at : ℕ} (h : at < length body) {words : ℕ} (coun
 pub part-from : (body : List ℕ) (at : ℕ) → take (length body - at) (drop at body) ≡ drop at body
 part-from body at = take-all (length body - at) (drop at body) (simp length-drop (omega arith))
 
--- how far the reading of a body has come: so many clauses read, and where the last begins
-pub record Walking (body : List ℕ) (at clauses last : ℕ) : Type 0 where
+-- how far the reading of a body has come: so many clauses read, where the last begins, and the fingerprint so far
+pub record Walking (body : List ℕ) (at clauses last h : ℕ) : Type 0 where
   pub within : at ≤ length body
   pub counted : clauses ≤ at
   pub faults : bodyFault 0 0 body ≡ bodyFault at 0 (drop at body)
   pub count : length (starts 0 0 body) ≡ clauses + length (starts at 0 (drop at body))
   pub lasts : lastOf 0 (starts 0 0 body) ≡ lastOf last (starts at 0 (drop at body))
+  pub mixing : fingerprint body ≡ mixed h (bytesOf (drop at body))
 
 module _ {body : List ℕ} where
-  pub walk-begin : Walking body 0 0 0
-  walk-begin = record { within = omega arith; counted = omega arith; faults = refl; count = omega arith; lasts = refl }
+  pub walk-begin : Walking body 0 0 0 0x811C9DC5
+  walk-begin =
+      record {
+        within = omega arith;
+        counted = omega arith;
+        faults = refl;
+        count = omega arith;
+        lasts = refl;
+        mixing = mixed-begin body;
+      }
 
-  module _ {at clauses last : ℕ} (g : Walking body at clauses last) where
+  module _ {at clauses last hash : ℕ} (g : Walking body at clauses last hash) where
     module _ (h : length body ≤ at) where
+      pub walk-printed : hash ≡ fingerprint body
+      walk-printed = sym (g .mixing ∙ mixed-end body at h hash)
+
       none-left : starts at 0 (drop at body) ≡ []
       unfolding starts
       none-left = rw (drop-of-length-le body h)
@@ -99,12 +113,18 @@ module _ {body : List ℕ} where
       left : length (getD body at 0 ∷ drop (at + 1) body) ≡ length body - at
       left = sym (ap (λ (l : List ℕ). length l) (from-place body at h)) ∙ length-drop at body
 
-      module _ (r : ClauseRead) (j : Judged (take (length body - at) (drop at body)) r) where
-        module _ {words : ℕ} (e : r ≡ Whole words) where
-          whole : IsWhole (getD body at 0 ∷ drop (at + 1) body) words
+      module _ (r : ClauseRead) (j : Judged (take (length body - at) (drop at body)) hash r) where
+        module _ {words k : ℕ} (e : r ≡ Whole words k) where
+          whole : IsWhole (getD body at 0 ∷ drop (at + 1) body) hash words k
           whole = rw (here, e) at j
 
-          pub walk-next : Walking body (at + words) (clauses + 1) at
+          mixed-clause : mixed hash (bytesOf (drop at body)) ≡ mixed k (bytesOf (drop (at + words) body))
+          mixed-clause =
+              rw (from-place body at h) (whole .mixes)
+              ∙ ap (λ (ws : List ℕ). mixed k (bytesOf (drop words ws))) (sym (from-place body at h))
+              ∙ ap (λ (ws : List ℕ). mixed k (bytesOf ws)) (drop-drop words at body)
+
+          pub walk-next : Walking body (at + words) (clauses + 1) at k
           unfolding lastOf
           walk-next =
               let more : starts at 0 (drop at body) ≡ at ∷ starts (at + words) 0 (drop (at + words) body) =
@@ -116,6 +136,7 @@ module _ {body : List ℕ} where
                 faults = g .faults ∙ next-faults body h (whole .counts) (whole .sound);
                 count = let n = rw more at (g .count) in omega arith;
                 lasts = rw more at (g .lasts);
+                mixing = g .mixing ∙ mixed-clause;
               }
 
           pub walk-steps : length body ≤ 16000 → Fits w64 (at + words)
@@ -140,7 +161,7 @@ module _ {body : List ℕ} where
               let f : bodyFault 0 0 body ≡ some (at + q) = rw (from-place body at h, malformed .faulty) at (g .faults) in
               rw (f, er)
 
-pub ruleset body-laws = (walk-begin, walk-done, walk-part, walk-next, walk-steps, walk-falls, walk-fits, walk-adds, walk-stops)
+pub ruleset body-laws = (walk-begin, walk-done, walk-printed, walk-part, walk-next, walk-steps, walk-falls, walk-fits, walk-adds, walk-stops)
 
 -- a positive literal
 module _ (w : ℕ) {k : ℕ} (e : k ≡ kindOf w) where

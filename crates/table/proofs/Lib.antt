@@ -1,5 +1,6 @@
 pub mod Opened
 pub mod Bools
+pub mod Mixing
 pub mod Terms
 pub mod Clauses
 pub mod Bodies

@@ -9,6 +9,7 @@ ghost use mathlib.Core.Option.{none};
 ghost use mathlib.Core.Path.{_≡_};
 ghost use Prim.Native.Nat.{_≤_, _<_};
 ghost use lib.ListN.{length, getD};
+ghost use Rattle.words.specs.Fingerprint.{fingerprint};
 ghost use Rattle.table.specs.Body.{bodyFault, starts, positive, anyPositive};
 ghost use Rattle.table.specs.File.{bodyOf, trailer, clauseStarts, trailerFits, questionWords, refused, judgeRead, judgeBody, judge, partFrom, clausePart, Stands};
 ghost use Rattle.table.specs.Readers.{bodyRead, BeginsAt};
@@ -25,28 +26,45 @@ fn refused(status: u32, place: usize) -> Judgement
     }
 }
 
+// A body read: what its clauses come to, and the fingerprint of all its words.
+struct BodyRead {
+    judged: Judgement,
+    fingerprint: u32,
+}
+
 // The body is clauses back to back. A malformed clause ends the reading at once with its place.
-fn read_body(body: &[u32]) -> Judgement
+fn read_body(body: &[u32]) -> BodyRead
     requires { ⌜ length (now body) ≤ 16000 ⌝ }
-    ensures { λ r. ⌜ r ≡ bodyRead (now (body .entry)) (bodyFault 0 0 (now (body .entry))) ⌝ }
+    ensures { λ r. ⌜ r .judged ≡ bodyRead (now (body .entry)) (bodyFault 0 0 (now (body .entry))) ⌝ }
+    ensures { λ r. ⌜ r .fingerprint ≡ fingerprint (now (body .entry)) ⌝ }
 {
     let mut at = 0;
     let mut clauses = 0;
     let mut last = 0;
+    let mut h = fingerprint::BASIS;
     while at < body.len() {
-        let read = read::clause(&body[at..]);
-        let ClauseRead::Whole(words) = read else {
-            return refused(7, at + read::place_of(read));
+        let read = read::clause(&body[at..], h);
+        let ClauseRead::Whole(words, mixed) = read else {
+            let judged = refused(7, at + read::place_of(read));
+            return BodyRead {
+                judged,
+                fingerprint: fingerprint::of_words(body),
+            };
         };
         last = at;
         clauses += 1;
         at += words;
+        h = mixed;
     }
-    Judgement {
+    let judged = Judgement {
         status: 0,
         place: 0,
         clauses,
         question: last,
+    };
+    BodyRead {
+        judged,
+        fingerprint: h,
     }
 }
 
@@ -132,7 +150,7 @@ fn judge_read(file: &[u32], read: Judgement) -> Judgement
     read
 }
 
-// The fingerprint, then the body.
+// The fingerprint, then the body: both are read at once, and the fingerprint is judged first.
 fn judge_body(file: &[u32]) -> Judgement
     requires { ⌜ (4 ≤ length (now file)) × (length (now file) ≤ 16000) ⌝ }
     requires { ⌜ trailerFits (now file) ≡ true ⌝ }
@@ -140,10 +158,11 @@ fn judge_body(file: &[u32]) -> Judgement
 {
     let end = file.len() - 4;
     let body = &file[..end];
-    if fingerprint::of_words(body) != trailer(file, 2) {
+    let read = read_body(body);
+    if read.fingerprint != trailer(file, 2) {
         return refused(6, 0);
     }
-    judge_read(file, read_body(body))
+    judge_read(file, read.judged)
 }
 
 pub fn judge(file: &[u32]) -> Judgement

@@ -1,5 +1,7 @@
 // Reading a clause: terms, literals, the clause. A place is counted from the clause's own word.
+// The fingerprint is taken on the way: its products wait for one another, and the words are read meanwhile.
 use words::fields;
+use words::fingerprint;
 ghost use mathlib.Core.Bool.{true};
 ghost use mathlib.Core.Path.{_≡_};
 ghost use Prim.Native.Nat.{_+_, _-_, _^_, _≤_, _<_};
@@ -7,9 +9,9 @@ ghost use lib.ListN.{length, drop, getD};
 ghost use Rattle.table.specs.Reading.{variableFits, clauseFits};
 ghost use Rattle.table.specs.Readers.{TermRead, TermsRead, LiteralRead, LiteralsRead, placeRead, WordsJudged, Judged, placeOf};
 
-// What reading from a place gives: the place where the reading goes on, or the place of the first wrong word.
+// What reading from a place gives: the place where the reading goes on and the fingerprint up to it, or the place of the first wrong word.
 pub(crate) enum Reading {
-    Next(usize),
+    Next(usize, u32),
     Wrong(usize),
 }
 
@@ -23,19 +25,25 @@ fn variable_fits(count: u32, w: u32) -> bool
 }
 
 // A term is its word and then its arguments, each of them a term.
-pub(crate) fn term(own: &[u32], at: usize, count: u32) -> Reading
+pub(crate) fn term(own: &[u32], at: usize, count: u32, hash: u32) -> Reading
     requires { ⌜ at ≤ length (now own) ⌝ }
-    ensures { λ r. ⌜ TermRead count (now (own .entry)) at r ⌝ }
+    ensures { λ r. ⌜ TermRead count (now (own .entry)) at hash r ⌝ }
 {
     if own.len() <= at {
         return Reading::Wrong(at);
     }
     let w = own[at];
     if variable_fits(count, w) {
-        return Reading::Next(at + 1);
+        return Reading::Next(at + 1, fingerprint::mix_word(hash, w));
     }
     if fields::function_shaped(w) {
-        return arguments(own, at + 1, count, fields::arity(w));
+        return arguments(
+            own,
+            at + 1,
+            count,
+            fields::arity(w),
+            fingerprint::mix_word(hash, w),
+        );
     }
     Reading::Wrong(at)
 }
@@ -54,18 +62,20 @@ fn in_place(left: u32, more: u32) -> bool
 }
 
 // So many terms, one after the other.
-pub(crate) fn arguments(own: &[u32], at: usize, count: u32, many: u32) -> Reading
+pub(crate) fn arguments(own: &[u32], at: usize, count: u32, many: u32, hash: u32) -> Reading
     requires { ⌜ at ≤ length (now own) ⌝ }
-    ensures { λ r. ⌜ TermsRead count (now (own .entry)) at many r ⌝ }
+    ensures { λ r. ⌜ TermsRead count (now (own .entry)) at many hash r ⌝ }
 {
     let mut next = at;
     let mut left = many;
+    let mut h = hash;
     while left > 0 {
         if own.len() <= next {
             return Reading::Wrong(next);
         }
         let w = own[next];
         if variable_fits(count, w) {
+            h = fingerprint::mix_word(h, w);
             next += 1;
             left -= 1;
             continue;
@@ -75,51 +85,61 @@ pub(crate) fn arguments(own: &[u32], at: usize, count: u32, many: u32) -> Readin
         }
         let more = fields::arity(w);
         if in_place(left, more) {
+            h = fingerprint::mix_word(h, w);
             next += 1;
             left = left - 1 + more;
             continue;
         }
-        let read = term(own, next, count);
-        let Reading::Next(further) = read else {
+        let read = term(own, next, count, h);
+        let Reading::Next(further, mixed) = read else {
             return read;
         };
         next = further;
         left -= 1;
+        h = mixed;
     }
-    Reading::Next(next)
+    Reading::Next(next, h)
 }
 
 // A literal is its word and then its arguments.
-fn literal(own: &[u32], at: usize, count: u32) -> Reading
+fn literal(own: &[u32], at: usize, count: u32, hash: u32) -> Reading
     requires { ⌜ at ≤ length (now own) ⌝ }
-    ensures { λ r. ⌜ LiteralRead count (now (own .entry)) at r ⌝ }
+    ensures { λ r. ⌜ LiteralRead count (now (own .entry)) at hash r ⌝ }
 {
     if own.len() <= at {
         return Reading::Wrong(at);
     }
     let w = own[at];
     if fields::literal_shaped(w) {
-        return arguments(own, at + 1, count, fields::arity(w));
+        return arguments(
+            own,
+            at + 1,
+            count,
+            fields::arity(w),
+            fingerprint::mix_word(hash, w),
+        );
     }
     Reading::Wrong(at)
 }
 
 // So many literals, from the word after the clause's own.
-fn literals(own: &[u32], count: u32, many: u32) -> Reading
+fn literals(own: &[u32], count: u32, many: u32, hash: u32) -> Reading
     requires { ⌜ 1 ≤ length (now own) ⌝ }
-    ensures { λ r. ⌜ LiteralsRead count (now (own .entry)) many r ⌝ }
+    ensures { λ r. ⌜ LiteralsRead count (now (own .entry)) many hash r ⌝ }
 {
     let mut next = 1;
     let mut left = many;
+    let mut h = hash;
     while left > 0 {
-        let read = literal(own, next, count);
-        let Reading::Next(further) = read else {
+        let read = literal(own, next, count, h);
+        let Reading::Next(further, mixed) = read else {
             return read;
         };
         next = further;
         left -= 1;
+        h = mixed;
     }
-    Reading::Next(next)
+    Reading::Next(next, h)
 }
 
 // The place that a reading came to.
@@ -127,14 +147,14 @@ fn place_read(r: Reading) -> usize
     ensures { λ p. ⌜ p ≡ placeRead r ⌝ }
 {
     match r {
-        Reading::Next(next) => next,
+        Reading::Next(next, _) => next,
         Reading::Wrong(place) => place,
     }
 }
 
-// What judging a clause gives: the number of its words, or the place of its first fault.
+// What judging a clause gives: the number of its words and the fingerprint up to its last, or the place of its first fault.
 pub(crate) enum ClauseRead {
-    Whole(usize),
+    Whole(usize, u32),
     Malformed(usize),
 }
 
@@ -143,25 +163,26 @@ pub(crate) fn place_of(r: ClauseRead) -> usize
     ensures { λ p. ⌜ p ≡ placeOf r ⌝ }
 {
     match r {
-        ClauseRead::Whole(words) => words,
+        ClauseRead::Whole(words, _) => words,
         ClauseRead::Malformed(place) => place,
     }
 }
 
 // The words of a clause, all of them: its literals take them up to the last.
-fn clause_words(own: &[u32]) -> ClauseRead
+fn clause_words(own: &[u32], hash: u32) -> ClauseRead
     requires { ⌜ 1 ≤ length (now own) ⌝ }
-    ensures { λ r. ⌜ WordsJudged (now (own .entry)) r ⌝ }
+    ensures { λ r. ⌜ WordsJudged (now (own .entry)) hash r ⌝ }
 {
     let w = own[0];
-    let read = literals(own, fields::variables(w), fields::literals(w));
-    let Reading::Next(next) = read else {
+    let h = fingerprint::mix_word(hash, w);
+    let read = literals(own, fields::variables(w), fields::literals(w), h);
+    let Reading::Next(next, mixed) = read else {
         return ClauseRead::Malformed(place_read(read));
     };
     if next < own.len() {
         return ClauseRead::Malformed(next);
     }
-    ClauseRead::Whole(next)
+    ClauseRead::Whole(next, mixed)
 }
 
 // The clause's own word: its kind, fields and length.
@@ -177,13 +198,13 @@ fn clause_fits(part: &[u32]) -> bool
 }
 
 // A clause is judged from the part of the body that starts at its own word.
-pub(crate) fn clause(part: &[u32]) -> ClauseRead
+pub(crate) fn clause(part: &[u32], hash: u32) -> ClauseRead
     requires { ⌜ 1 ≤ length (now part) ⌝ }
-    ensures { λ r. ⌜ Judged (now (part .entry)) r ⌝ }
+    ensures { λ r. ⌜ Judged (now (part .entry)) hash r ⌝ }
 {
     if clause_fits(part) {
         let end = fields::wide(fields::following(part[0])) + 1;
-        return clause_words(&part[..end]);
+        return clause_words(&part[..end], hash);
     }
     ClauseRead::Malformed(0)
 }

@@ -7,7 +7,8 @@ ghost use Rattle.words.specs.Fingerprint.{product, mixed, fnv, wordBytes
 use crate::bytes::small;
 use crate::fields::bits;
 
-const BASIS: u32 = 0x811C_9DC5;
+// What the fingerprint of no words is.
+pub const BASIS: u32 = 0x811C_9DC5;
 
 const PRIME: u64 = 0x0100_0193;
 

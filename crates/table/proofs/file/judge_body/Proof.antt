@@ -16,5 +16,4 @@ judge-body-spec =
     (λ c κs. search all)
     (λ c. search all)
     (λ c κs. search all)
-    (λ c κs. search all)
     (λ c. search all))

@@ -8,10 +8,10 @@ use Rattle.table.proofs.file.read_body.Tie as tie
 ruleset all = (needs, body-laws)
 
 abbrev Inv-loop : tie.InvT-loop
-Inv-loop body at₀ clauses₀ last₀ at clauses last = Walking body at clauses last
+Inv-loop body at₀ clauses₀ last₀ h₀ at clauses last h = Walking body at clauses last h
 
 abbrev μ-loop : tie.MeasureT-loop
-μ-loop body at₀ clauses₀ last₀ at clauses last = length body - at
+μ-loop body at₀ clauses₀ last₀ h₀ at clauses last h = length body - at
 
 pub read-body-spec : {M : Type 1} → statement M
 read-body-spec =
@@ -29,6 +29,7 @@ read-body-spec =
     (λ c. search all)
     (λ c κs. search all)
     (λ c. search all)
+    (λ c κs. search all)
     (λ c κs. search all)
     (λ c. search all)
     (λ c. search all)

@@ -14,6 +14,7 @@ use Rattle.table.proofs.read.+arguments+term.Lts-term as term-lts
 use Rattle.table.proofs.read.in_place.Reads as in-place-reads
 use Rattle.table.proofs.read.variable_fits.Reads as variable-fits-reads
 use Rattle.words.proofs.fields.arity.Reads as arity-reads
+use Rattle.words.proofs.fingerprint.mix_word.Reads as mix-word-reads
 use Rattle.words.proofs.fields.function_shaped.Reads as function-shaped-reads
 use Rattle.table.proofs.read.+arguments+term.{statement}
 use Rattle.table.proofs.read.+arguments+term.Tie.{close}
@@ -41,16 +42,16 @@ abbrev term-below : ℕ → In 1 term-kinds.ps
 term-below t = and 1 term-kinds.ps (falls 1 term-kinds.ps _<_ μ-term t) term.Pre
 
 abbrev Inv : arguments-lts.InvT-loop
-Inv own at count many next₀ left₀ next left = Going count own at many next left
+Inv own at count many hash next₀ left₀ h₀ next left h = Going count own at many hash next left h
 
 abbrev μ : arguments-lts.MeasureT-loop
-μ own at count many next₀ left₀ next left = length own - next
+μ own at count many hash next₀ left₀ h₀ next left h = length own - next
 
 abbrev told-arguments : ℕ → arguments-lts.Claims
-told-arguments t = (variable-fits-reads.Asked, variable-fits-reads.Learnt, function-shaped-reads.Asked, function-shaped-reads.Learnt, arity-reads.Asked, arity-reads.Learnt, in-place-reads.Asked, in-place-reads.Learnt, term-below t, term.Post)
+told-arguments t = (variable-fits-reads.Asked, variable-fits-reads.Learnt, mix-word-reads.Asked, mix-word-reads.Learnt, function-shaped-reads.Asked, function-shaped-reads.Learnt, arity-reads.Asked, arity-reads.Learnt, in-place-reads.Asked, in-place-reads.Learnt, term-below t, term.Post)
 
 abbrev told : ℕ → term-lts.Claims
-told t = (variable-fits-reads.Asked, variable-fits-reads.Learnt, function-shaped-reads.Asked, function-shaped-reads.Learnt, arity-reads.Asked, arity-reads.Learnt, arguments-below t, arguments.Post)
+told t = (variable-fits-reads.Asked, variable-fits-reads.Learnt, mix-word-reads.Asked, mix-word-reads.Learnt, function-shaped-reads.Asked, function-shaped-reads.Learnt, arity-reads.Asked, arity-reads.Learnt, arguments-below t, arguments.Post)
 
 pub +arguments+term-spec : {M : Type 1} → statement M
 +arguments+term-spec =
@@ -68,12 +69,14 @@ pub +arguments+term-spec : {M : Type 1} → statement M
     (λ c. search all)
     (λ c. search all)
     (λ c κs. search all)
+    (λ c κs. search all)
     (λ c. search all)
     (λ c. search all)
     (λ c. omega arith)
     (λ c. search all)
     (λ c κs. search all)
     (λ c. search all)
+    (λ c κs. search all)
     (λ c κs. search all)
     (λ c κs. search all)
     (λ c. search all)
@@ -98,9 +101,11 @@ pub +arguments+term-spec : {M : Type 1} → statement M
     (λ c. search all)
     (λ c κs. search all)
     (λ c. search all)
+    (λ c κs. search all)
     (λ c. search all)
     (λ c κs. search all)
     (λ c. search all)
+    (λ c κs. search all)
     (λ c κs. search all)
     (λ c κs. omega arith)
     (λ c. search all)

@@ -16,5 +16,6 @@ literal-spec =
     (λ c. search needs)
     (λ c κs. search needs)
     (λ c κs. search needs)
+    (λ c κs. search needs)
     (λ c. search all)
     (λ c. search all))

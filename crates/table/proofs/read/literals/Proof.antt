@@ -6,10 +6,10 @@ use Rattle.table.proofs.read.literals.Tie as tie
 ruleset all = (needs, literals-laws)
 
 abbrev Inv-loop : tie.InvT-loop
-Inv-loop own count many next₀ left₀ next left = GoingLiterals count own many next left
+Inv-loop own count many hash next₀ left₀ h₀ next left h = GoingLiterals count own many hash next left h
 
 abbrev μ-loop : tie.MeasureT-loop
-μ-loop own count many next₀ left₀ next left = left
+μ-loop own count many hash next₀ left₀ h₀ next left h = left
 
 pub literals-spec : {M : Type 1} → statement M
 literals-spec =
