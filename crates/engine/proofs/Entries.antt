@@ -24,7 +24,7 @@ use Rattle.engine.proofs.Sound.{owing-arity}
 use Rattle.engine.proofs.Fitting.{other-kind}
 use Rattle.engine.proofs.Places.{table-clauses, some-length}
 use Rattle.engine.proofs.Extensions.{extensions-listed}
-use Rattle.engine.proofs.Offsets.{own-literals}
+use Rattle.tableaux.proofs.Literals.{clause-counted}
 use Rattle.engine.proofs.Entered.{enters}
 use Rattle.engine.proofs.Absent.{no-entry}
 
@@ -80,4 +80,4 @@ module _ (f : List ℕ) (n : ℕ) (fits : n ≤ length f) (r : Readable (take n 
 
     pub literal-small : s .literals < 7
     literal-small =
-        omega (arith, some-length (offsetsOf f (s .start)) (s .literals) (e .offset), own-literals f (s .start) (e .begins), bits-small 0 3 (getD f (s .start) 0))
+        omega (arith, some-length (offsetsOf f (s .start)) (s .literals) (e .offset), clause-counted (e .begins), bits-small 0 3 (getD f (s .start) 0))

@@ -19,7 +19,7 @@ use Rattle.table.proofs.Decoding.{literals-literal, literals-other}
 use Rattle.rules.proofs.Lists.{none-some}
 use Rattle.rules.proofs.Lists.{map-some}
 use Rattle.unification.specs.State.{ownWords, ClauseAt}
-use Rattle.tableaux.specs.Leaves.{literalOffsets, hangs, hanging}
+use Rattle.tableaux.specs.Leaves.{literalOffsets}
 use Rattle.tableaux.specs.Scanning.{offsetsOf, literalFrom, LiteralAt, Owes}
 use Rattle.engine.proofs.Sound.{Sound, variable, function, literal, sound-word, nothing-owed, SoundClause, sound-clause}
 use Rattle.engine.proofs.Places.{place-word, place-next, place-inside}
@@ -97,21 +97,6 @@ module _ (v : ℕ) (own : List ℕ) where
   sound-offsets [] k l t place e s j o h = absurd (none-some h)
   sound-offsets (w ∷ ws) k l t place e s j o h = offset-sound k w ws e (sound-offsets ws) (sound-word v place w ws l t s) j o h
 
--- as many offsets as literals are owed
-count-owed : {v place w l t : ℕ} {ws : List ℕ} → Sound v place w ws l t → ((l t place : ℕ) → fault v l t place ws ≡ none → (k : ℕ) → length (literalOffsets k ws) ≡ l)
-    → (k : ℕ) → length (literalOffsets k (w ∷ ws)) ≡ l
-count-owed {place = place} {w = w} {ws = ws} (variable {l} {t} z s) more k =
-    rw (offsets-other k w ws (λ p. omega arith)) (more l t (place + 1) s (k + 1))
-count-owed {place = place} {w = w} {ws = ws} (function {l} {t} z s) more k =
-    rw (offsets-other k w ws (λ p. omega arith)) (more l (arityOf w + t) (place + 1) s (k + 1))
-count-owed {place = place} {w = w} {ws = ws} (literal {l} fine s) more k =
-    rw (offsets-literal k w ws (plain-kind 2 16 w (literal-plain w fine))) (ap suc (more l (arityOf w) (place + 1) s (k + 1)))
-
-offsets-owed : (v : ℕ) (ws : List ℕ) (l t place : ℕ) → fault v l t place ws ≡ none → (k : ℕ) → length (literalOffsets k ws) ≡ l
-unfolding literalOffsets
-offsets-owed v [] l t place e k = sym (nothing-owed v l t place e .0)
-offsets-owed v (w ∷ ws) l t place e k = count-owed (sound-word v place w ws l t e) (offsets-owed v ws) k
-
 -- the words of a clause that begins at a position
 module _ (f : List ℕ) (p : ℕ) (c : ClauseAt f p) where
   clause-sound : SoundClause (getD f p 0) (drop (suc p) f)
@@ -151,87 +136,3 @@ module _ (f : List ℕ) (p : ℕ) (c : ClauseAt f p) where
         owing = rw (drop-drop 1 o (ownWords f p)) (rw same at (there .owing));
         literal = rw (clause-literals (ownWords f p)) at (map-some (λ (k : ℕ). literalFrom (drop k (ownWords f p))) (offsetsOf f p) j h);
       }
-
-  pub own-literals : length (offsetsOf f p) ≡ literalsOf (getD f p 0)
-  own-literals =
-      offsets-owed (variablesOf (getD f p 0)) (drop 1 (ownWords f p)) (literalsOf (getD f p 0)) 0 1 (rw after-own (clause-sound .sound)) 1
-
--- the offsets of the literals that hang: all but the one that is entered
-module _ (entered k w : ℕ) (ws : List ℕ) where
-  pub hanging-leaf : hangs entered k w ≡ true → hanging entered k (w ∷ ws) ≡ k ∷ hanging entered (k + 1) ws
-  unfolding hanging
-  hanging-leaf t = rw t
-
-  pub hanging-other : hangs entered k w ≡ false → hanging entered k (w ∷ ws) ≡ hanging entered (k + 1) ws
-  unfolding hanging
-  hanging-other t = rw t
-
-  hangs-not : (kindOf w ≡ 2 → ⊥) → hangs entered k w ≡ false
-  unfolding hangs
-  hangs-not other = rw (ne-eqb (kindOf w) 2 other)
-
-  hangs-entered : kindOf w ≡ 2 → k ≡ entered → hangs entered k w ≡ false
-  unfolding hangs
-  hangs-entered two e = rw (eq-eqb (kindOf w) 2 two, eq-eqb k entered e)
-
-  hangs-leaf : kindOf w ≡ 2 → (k ≡ entered → ⊥) → hangs entered k w ≡ true
-  unfolding hangs
-  hangs-leaf two other = rw (eq-eqb (kindOf w) 2 two, ne-eqb k entered other)
-
--- after the entered one's place, or where none is entered
-module _ (entered : ℕ) where
-  passed-at : (b : Bool) (k w : ℕ) (ws : List ℕ) → eqb (kindOf w) 2 ≡ b → entered < k → hanging entered (k + 1) ws ≡ literalOffsets (k + 1) ws
-      → hanging entered k (w ∷ ws) ≡ literalOffsets k (w ∷ ws)
-  passed-at true k w ws t h e =
-      let two = eqb-true (kindOf w) 2 t in
-      rw (hanging-leaf entered k w ws (hangs-leaf entered k w ws two (λ p. omega arith)), offsets-literal k w ws two, e)
-  passed-at false k w ws t h e =
-      let other = eqb-false (kindOf w) 2 t in
-      rw (hanging-other entered k w ws (hangs-not entered k w ws other), offsets-other k w ws other, e)
-
-  pub hanging-all : (ws : List ℕ) (k : ℕ) → entered < k → hanging entered k ws ≡ literalOffsets k ws
-  unfolding hanging literalOffsets
-  hanging-all [] k h = refl
-  hanging-all (w ∷ ws) k h = passed-at (eqb (kindOf w) 2) k w ws refl h (hanging-all ws (k + 1) (omega arith))
-
--- a list without the element of a number
-abbrev but : {A : Type 0} → ℕ → List A → List A
-but j xs = take j xs ++ drop (suc j) xs
-
-above-at : (b : Bool) (k w : ℕ) (ws : List ℕ) → eqb (kindOf w) 2 ≡ b → ((j o : ℕ) → getElem? (literalOffsets (k + 1) ws) j ≡ some o → k + 1 ≤ o)
-    → (j o : ℕ) → getElem? (literalOffsets k (w ∷ ws)) j ≡ some o → k ≤ o
-above-at true k w ws t more zero o e =
-    let here = rw (offsets-literal k w ws (eqb-true (kindOf w) 2 t)) at e in let same : k ≡ o = cc in omega arith
-above-at true k w ws t more (suc j) o e =
-    omega (arith, more j o (rw (offsets-literal k w ws (eqb-true (kindOf w) 2 t)) at e))
-above-at false k w ws t more j o e =
-    omega (arith, more j o (rw (offsets-other k w ws (eqb-false (kindOf w) 2 t)) at e))
-
-offsets-above : (ws : List ℕ) (k j o : ℕ) → getElem? (literalOffsets k ws) j ≡ some o → k ≤ o
-unfolding literalOffsets
-offsets-above [] k j o e = absurd (none-some e)
-offsets-above (w ∷ ws) k j o e = above-at (eqb (kindOf w) 2) k w ws refl (offsets-above ws (k + 1)) j o e
-
-abbrev Hangs : List ℕ → ℕ → Type 0
-Hangs ws k = (j o : ℕ) → getElem? (literalOffsets k ws) j ≡ some o → hanging o k ws ≡ but j (literalOffsets k ws)
-
-hanging-at : (b : Bool) (k w : ℕ) (ws : List ℕ) → eqb (kindOf w) 2 ≡ b → Hangs ws (k + 1) → Hangs (w ∷ ws) k
-hanging-at true k w ws t more zero o e =
-    let two = eqb-true (kindOf w) 2 t in
-    let here = rw (offsets-literal k w ws two) at e in
-    let same : k ≡ o = cc in
-    rw (hanging-other o k w ws (hangs-entered o k w ws two same), offsets-literal k w ws two) (hanging-all o ws (k + 1) (omega arith))
-hanging-at true k w ws t more (suc j) o e =
-    let two = eqb-true (kindOf w) 2 t in
-    let here = rw (offsets-literal k w ws two) at e in
-    let above = offsets-above ws (k + 1) j o here in
-    rw (hanging-leaf o k w ws (hangs-leaf o k w ws two (λ p. omega arith)), offsets-literal k w ws two, more j o here)
-hanging-at false k w ws t more j o e =
-    let other = eqb-false (kindOf w) 2 t in
-    let here = rw (offsets-other k w ws other) at e in
-    rw (hanging-other o k w ws (hangs-not o k w ws other), offsets-other k w ws other) (more j o here)
-
-pub hanging-but : (ws : List ℕ) (k : ℕ) → Hangs ws k
-unfolding hanging literalOffsets
-hanging-but [] k j o e = absurd (none-some e)
-hanging-but (w ∷ ws) k j o e = hanging-at (eqb (kindOf w) 2) k w ws refl (hanging-but ws (k + 1)) j o e
