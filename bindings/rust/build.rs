@@ -1,7 +1,12 @@
-// Links the proved engine: `rt staticlib hukolearu` writes target/staticlib/libhukolearu.a at the top of the repository.
+// Links the proved engine, target/staticlib/libhukolearu.a at the top of the repository (`rt staticlib hukolearu`);
+// or the libhukolearu.a of the folder that HUKOLEARU_LIBRARY names.
+const CRATE: &str = "hukolearu";
+
 fn main() {
-    let top = std::path::Path::new(env!("CARGO_MANIFEST_DIR")).join("../../target/staticlib");
-    println!("cargo:rustc-link-search=native={}", top.display());
-    println!("cargo:rustc-link-lib=static=hukolearu");
-    println!("cargo:rerun-if-changed={}", top.join("libhukolearu.a").display());
+    let made = concat!(env!("CARGO_MANIFEST_DIR"), "/../../target/staticlib");
+    let folder = std::env::var("HUKOLEARU_LIBRARY").unwrap_or(made.to_owned());
+    println!("cargo:rustc-link-search=native={folder}");
+    println!("cargo:rustc-link-lib=static={CRATE}");
+    println!("cargo:rerun-if-changed={folder}/lib{CRATE}.a");
+    println!("cargo:rerun-if-env-changed=HUKOLEARU_LIBRARY");
 }

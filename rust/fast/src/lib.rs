@@ -7,7 +7,6 @@ mod play;
 mod read;
 mod terms;
 mod words;
-pub mod workloads;
 
 use calls::{Engine, Lent};
 use engine::{LARGEST_BOUND, PROOF_WORDS, Report, Status, WORK_WORDS};

@@ -22,8 +22,15 @@ pub fn main() -> Vec<Workload> {
         wide(400),
         deep(200),
         longest_file(),
-        workload("small", "at(e,mat) | at(e,eve)\n? at(e,X)", 2, 3),
+        workload("case 1", "at(e,mat) | at(e,eve)\n? at(e,X)", 2, 3),
+        workload("case 2", "at(e,mat) | at(e,eve)\n? at(e,X)", 1, u32::MAX),
+        workload("case 7", "p(f(X,g(Y)))\n? p(f(g(Z),Z))", 1, u32::MAX),
+        workload("case 9", "p | q\np | ~ q\n? p", 2, u32::MAX),
     ]
+}
+
+pub fn all() -> Vec<Workload> {
+    main().into_iter().chain(growth()).collect()
 }
 
 /// How cost grows with the table, the bound and the size of terms.
@@ -45,7 +52,7 @@ fn wide(clauses: usize) -> Workload {
     let stride = (clauses - 1) / (2 * LEVELS);
     let line = |number: usize| {
         let (level, branch) = (number / stride / 2, number / stride % 2);
-        if number % stride == 0 && level < LEVELS {
+        if number.is_multiple_of(stride) && level < LEVELS {
             return format!("q{level}(X) | ~ q{}({}(X))", level + 1, ["f", "g"][branch]);
         }
         format!("seen{}(n{},h{})", number % 19, number / 20, number % 7)
