@@ -16,8 +16,8 @@ use Rattle.table.specs.Decode.{tableOf}
 use Rattle.table.specs.Limits.{Readable}
 use Rattle.rules.proofs.Lists.{none-some}
 use Rattle.tableaux.specs.declared.candidates.Scan.{Scan}
-use Rattle.tableaux.specs.Leaves.{literalOffsets}
-use Rattle.tableaux.specs.Scanning.{begun, pastWord, pastWords, Standing, offsetsOf, Enters}
+use Rattle.tableaux.specs.Leaves.{literalOffsets, offsetsAt}
+use Rattle.tableaux.specs.Scanning.{begun, pastWord, pastWords, Standing, Enters}
 use Rattle.tableaux.proofs.Scans.{past-clause, past-literal, past-other}
 use Rattle.engine.proofs.Sound.{Sound, variable, function, literal, sound-word, SoundClause, sound-clause, first-clause}
 use Rattle.engine.proofs.Places.{place-next, place-own, clause-numbered, asks-last}
@@ -38,7 +38,7 @@ pub record Later (f : List ℕ) (n : ℕ) (ws : List ℕ) (before s : Scan) : Ty
   pub clause : s .clauses ≡ suc (before .clauses + index)
   pub placed : getElem? (starts (before .at) n ws) index ≡ some (s .start)
   pub later : s .start < s .at
-  pub offset : getElem? (offsetsOf f (s .start)) (s .literals) ≡ some (s .at - s .start)
+  pub offset : getElem? (offsetsAt f (s .start)) (s .literals) ≡ some (s .at - s .start)
 
 -- past one word of the same clause, which is no literal's, or is one
 module _ {x : ℕ} {own : List ℕ} {passed at clauses start literals : ℕ} {s : Scan} where
@@ -71,7 +71,7 @@ module _ {x : ℕ} {own : List ℕ} {passed at clauses start literals : ℕ} {s 
 -- a literal among the words that follow a clause's own, by the scan past that word
 module _ (f after : List ℕ) (at x : ℕ) (ws : List ℕ) (e : drop at f ≡ x ∷ (ws ++ after)) (c : SoundClause x ws) {passed clauses : ℕ} {s : Scan}
     (h : Present (take (followingOf x) ws) passed (record { at = at + 1; clauses = clauses; start = at; literals = 0 }) s) where
-  entered : getElem? (offsetsOf f (s .start)) (s .literals) ≡ some (s .at - s .start)
+  entered : getElem? (offsetsAt f (s .start)) (s .literals) ≡ some (s .at - s .start)
   entered =
       let come : s .at - s .start ≡ 1 + passed = omega (arith, h .place, h .start) in
       let same : s .literals ≡ h .number = omega (arith, h .counted) in

@@ -18,7 +18,8 @@ use Rattle.rules.specs.Order.{extensions}
 use Rattle.unification.specs.State.{ownWords}
 use Rattle.tableaux.specs.declared.candidates.Scan.{Scan}
 use Rattle.tableaux.specs.declared.candidates.Candidate.the-variants.{Done}
-use Rattle.tableaux.specs.Scanning.{begun, pastWord, entriesFrom, Standing, NextEntry, entryFrom, EntryAt, otherSign, extensionAt, extensionsFrom, offsetsOf, literalFrom, LiteralAt, Enters, Owes}
+use Rattle.tableaux.specs.Leaves.{offsetsAt}
+use Rattle.tableaux.specs.Scanning.{begun, pastWord, entriesFrom, Standing, NextEntry, entryFrom, EntryAt, otherSign, extensionAt, extensionsFrom, literalFrom, LiteralAt, Enters, Owes}
 use Rattle.tableaux.proofs.Scans.{past-at, standing-past}
 use Rattle.engine.proofs.Sound.{owing-arity}
 use Rattle.engine.proofs.Fitting.{other-kind}
@@ -80,4 +81,4 @@ module _ (f : List ℕ) (n : ℕ) (fits : n ≤ length f) (r : Readable (take n 
 
     pub literal-small : s .literals < 7
     literal-small =
-        omega (arith, some-length (offsetsOf f (s .start)) (s .literals) (e .offset), clause-counted (e .begins), bits-small 0 3 (getD f (s .start) 0))
+        omega (arith, some-length (offsetsAt f (s .start)) (s .literals) (e .offset), clause-counted (e .begins), bits-small 0 3 (getD f (s .start) 0))

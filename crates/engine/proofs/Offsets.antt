@@ -19,8 +19,8 @@ use Rattle.table.proofs.Decoding.{literals-literal, literals-other}
 use Rattle.rules.proofs.Lists.{none-some}
 use Rattle.rules.proofs.Lists.{map-some}
 use Rattle.unification.specs.State.{ownWords, ClauseAt}
-use Rattle.tableaux.specs.Leaves.{literalOffsets}
-use Rattle.tableaux.specs.Scanning.{offsetsOf, literalFrom, LiteralAt, Owes}
+use Rattle.tableaux.specs.Leaves.{literalOffsets, offsetsAt}
+use Rattle.tableaux.specs.Scanning.{literalFrom, LiteralAt, Owes}
 use Rattle.engine.proofs.Sound.{Sound, variable, function, literal, sound-word, nothing-owed, SoundClause, sound-clause}
 use Rattle.engine.proofs.Places.{place-word, place-next, place-inside}
 
@@ -120,7 +120,7 @@ module _ (f : List ℕ) (p : ℕ) (c : ClauseAt f p) where
   unfolding ownWords
   after-own = rw (drop-cons f p 0 (c .inside))
 
-  pub literal-at : (j : ℕ) {o : ℕ} → getElem? (offsetsOf f p) j ≡ some o → LiteralAt f p j o
+  pub literal-at : (j : ℕ) {o : ℕ} → getElem? (offsetsAt f p) j ≡ some o → LiteralAt f p j o
   literal-at j {o} h =
       let there = sound-offsets (variablesOf (getD f p 0)) (ownWords f p) (drop 1 (ownWords f p)) 1 (literalsOf (getD f p 0)) 0 1 refl (rw after-own (clause-sound .sound)) j o h in
       let word : getD (drop o (ownWords f p)) 0 0 ≡ getD f (p + o) 0 =
@@ -134,5 +134,5 @@ module _ (f : List ℕ) (p : ℕ) (c : ClauseAt f p) where
         word = word;
         shaped = rw same at (there .shaped);
         owing = rw (drop-drop 1 o (ownWords f p)) (rw same at (there .owing));
-        literal = rw (clause-literals (ownWords f p)) at (map-some (λ (k : ℕ). literalFrom (drop k (ownWords f p))) (offsetsOf f p) j h);
+        literal = rw (clause-literals (ownWords f p)) at (map-some (λ (k : ℕ). literalFrom (drop k (ownWords f p))) (offsetsAt f p) j h);
       }

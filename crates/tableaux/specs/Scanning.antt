@@ -12,7 +12,7 @@ use Rattle.words.specs.declared.Step.the-variants.{Extension}
 use Rattle.table.specs.Syntax.{Literal, Table, allClauses}
 use Rattle.table.specs.Decode.{termsFrom, literalOf, clauseOf}
 use Rattle.table.specs.Reading.{fault}
-use Rattle.tableaux.specs.Leaves.{literalOffsets}
+use Rattle.tableaux.specs.Leaves.{offsetsAt}
 use Rattle.unification.specs.State.{ownWords, ClauseAt}
 use Rattle.tableaux.specs.declared.candidates.Scan.{Scan}
 use Rattle.tableaux.specs.declared.candidates.Candidate.{Candidate}
@@ -108,10 +108,6 @@ extensionAt s = Extension (s .clauses - 1) (s .literals)
 abbrev pub extensionsFrom : List ℕ → ℕ → Scan → List Step
 extensionsFrom words wanted s = map extensionAt (entriesFrom wanted s (drop (s .at) words))
 
--- the offsets of the literals of the clause that begins at a position
-abbrev pub offsetsOf : List ℕ → ℕ → List ℕ
-offsetsOf f p = literalOffsets 1 (drop 1 (ownWords f p))
-
 -- the literal that begins with the first of a clause's words
 abbrev pub literalFrom : List ℕ → Literal ℕ
 literalFrom ws = literalOf (getD ws 0 0) (termsFrom (drop 1 ws))
@@ -139,5 +135,5 @@ pub record Enters (f : List ℕ) (t : Table) (question : ℕ) (s : Scan) : Type 
   pub begun : 1 ≤ s .clauses
   pub clause : getElem? (allClauses t) (s .clauses - 1) ≡ some (clauseOf (ownWords f (s .start)))
   pub asks : eqb (s .start) question ≡ eqb (s .clauses - 1) (length (t .clauses))
-  pub offset : getElem? (offsetsOf f (s .start)) (s .literals) ≡ some (s .at - s .start)
+  pub offset : getElem? (offsetsAt f (s .start)) (s .literals) ≡ some (s .at - s .start)
   pub literal : LiteralAt f (s .start) (s .literals) (s .at - s .start)
