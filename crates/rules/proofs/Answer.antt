@@ -1,21 +1,24 @@
 -- The answer does not depend on which most general solution was taken; under every other solution the disjuncts are an instance of it.
 use lib.ListN.{length, getD, length-map}
 use mathlib.Core.Bool.{Bool, true, false, cond}
-use mathlib.Core.List.{List, [], _∷_, _++_, map, append-assoc}
+use mathlib.Core.List.{List, [], _∷_, _++_, map, append-assoc, map-append}
 use mathlib.Core.Path.{_≡_, refl, sym, _∙_, ap, ap₂}
 use native.Mathlib.Omega.{arith}
 use Prim.Native.Nat.{ℕ, zero, suc, _+_, _*_, _<_, _≤_}
 use mathlib.Core.Logic.{_≢_}
 use Rattle.table.specs.Syntax.{Term, var, app, Terms, nil, _then_, under, unders, Literal, literalUnder, Table}
 use Rattle.table.specs.Encode.{literalsWords}
-use Rattle.rules.specs.Substitution.{Variable, Substitution, Pair, Solves, MostGeneral}
+use Rattle.rules.specs.Substitution.{Variable, Substitution, Pair, Solves, MostGeneral, sameVariable}
 use Rattle.rules.specs.Tableau.{copyOf, Tableau}
-use Rattle.rules.specs.Unify.{sameVariable}
-use Rattle.rules.specs.Answer.{positive, disjunct, disjuncts, occurring, occurringIn, occurringAll, seen, firstsAfter, firsts, placeOf, numbered, joined, numberedDisjuncts, answerWords}
+use Rattle.rules.specs.Answer.{positive, disjunct, disjuncts, occurring, occurringIn, occurringAll, seen, firstsAfter, firsts, placeOf, numbered, joined, answerWords}
 use Rattle.rules.proofs.Substitution.{unders-var, unders-unders, sames}
-use Rattle.rules.proofs.Every.{All, end, _also_, all-first, all-rest, all-append, all-left, all-right, all-then, true-false, map-append, Ordered, done, _ahead_, ordered-append}
+use Rattle.rules.proofs.Every.{All, end, _also_, all-first, all-rest, all-append, all-left, all-right, all-then, true-false, Ordered, done, _ahead_, ordered-append}
 use Rattle.rules.proofs.Unify.Tests.{same-true, same-refl}
 use Rattle.rules.proofs.Distinct.{distinct-below}
+
+-- the disjuncts of an answer, each with its variables so numbered
+unfoldable pub numberedDisjuncts : List (List (Literal Variable)) → List (List (Literal ℕ))
+numberedDisjuncts ds = map (map (literalUnder (λ x. var (placeOf x (firsts (occurringAll (joined ds))))))) ds
 
 -- agreement on the variables that occur, and back
 mutual
@@ -311,7 +314,7 @@ seen-kept x before (y ∷ xs) e = go (seen y before) (seen-kept x before xs e) (
     go true f g = f
     go false f g = g
 
-all-seen : (before xs : List Variable) → All (λ x. seen x (firstsAfter before xs) ≡ true) xs
+pub all-seen : (before xs : List Variable) → All (λ x. seen x (firstsAfter before xs) ≡ true) xs
 unfolding firstsAfter
 all-seen before [] = end
 all-seen before (x ∷ xs) = go (seen x before) refl (all-seen before xs) (all-seen (before ++ (x ∷ [])) xs)

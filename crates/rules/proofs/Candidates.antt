@@ -1,25 +1,25 @@
 -- The candidates of a leaf are exactly the steps that can be taken there, each once, in the stated order;
 -- and of two closed tableaux one comes before the other, or they are the same.
 use borrow.Author.Tests.{lt-ltb}
-use lib.Dec.{ltb}
 use lib.ListN.{getElem?}
 use mathlib.Core.Bool.{Bool, true, false, cond}
 use mathlib.Core.List.{List, [], _∷_, _++_, List·Memᴰ, List·Memᴰ·head, List·Memᴰ·tail, List·Memᴰ·not-nil, List·Memᴰ·cases-cons, List·Memᴰ·append-cases, Memᴰ·append-left, Memᴰ·append-right}
 use mathlib.Core.Logic.{_⊎_, inl, inr}
-use mathlib.Core.Option.{none, some}
+use mathlib.Core.Option.{some}
 use mathlib.Core.Path.{_≡_, refl, sym, _∙_, ap}
 use native.Mathlib.Decide.{decLt}
 use native.Mathlib.Omega.{arith}
 use Prim.Native.Nat.{ℕ, zero, suc, _+_, _<_}
 use Rattle.words.specs.declared.Step.{Step}
 use Rattle.words.specs.declared.Step.the-variants.{Reduction, Extension, Malformed}
-use Rattle.table.specs.Syntax.{Literal, Clause, Table, allClauses}
+use Rattle.table.specs.Syntax.{Literal, Clause, allClauses}
 use Rattle.rules.specs.Substitution.{Variable}
+use Rattle.rules.specs.Setting.{Setting}
 use Rattle.rules.specs.Tableau
-use Rattle.rules.specs.Tableau.{copyOf, fits, Leaf, Tableau, stepped, treated, reduced, ancestor, extended, entered, Made, Closed, as-it-stands, by-step}
+use Rattle.rules.specs.Tableau.{copyOf, fits, Leaf, Tableau, stepped, mayExtend, treated, reduced, ancestor, extended, entered, Made, Closed, as-it-stands, by-step}
 use Rattle.rules.specs.Order.{Precedes, Before, at-once, later, reductions, entries, extensions, candidates, candidatesAt}
 use Rattle.rules.proofs.Lists.{none-some}
-use Rattle.rules.proofs.Steps.{Does, reduces, extends, does}
+use Rattle.rules.proofs.Steps.{MayExtend, Does, reduces, extends, does}
 use Rattle.rules.proofs.Every.{All, end, all-of, all-members, Ordered, done, some-same, _ahead_, ordered-append}
 
 -- The steps that a list of literals offers to a leaf: one for each literal that fits, made from its place.
@@ -160,11 +160,11 @@ module _ (leaf : Literal Variable) (copy : ℕ) where
       ordered-append {xs = entries leaf n 0 (copyOf copy c)} (rw e (offered-ordered (Extension n) leaf (λ i j l. inr (refl, l)) 0 (copyOf copy c))) (extensions-ordered (suc n) cs)
       (rw e (all-members _ λ s i. let o : Offer (Extension n) leaf 0 (copyOf copy c) s = offered-is (Extension n) leaf 0 (copyOf copy c) i in rw (o .is) (extensions-after n (suc n) cs (omega arith) (0 + o .place))))
 
-module _ (t : Table) (bound : ℕ) (x : Tableau) where
+module _ (S : Setting) (x : Tableau) where
   -- a step that is taken is a candidate
   reduction-candidate :
       (leaf : Leaf) (rest : List Leaf) (height : ℕ) {m : Literal Variable} → ancestor height (leaf .branch) ≡ some m
-      → fits (leaf .literal) m ≡ true → List·Memᴰ (Reduction height) (candidatesAt t bound (x .extensions) (leaf ∷ rest))
+      → fits (leaf .literal) m ≡ true → List·Memᴰ (Reduction height) (candidatesAt S (x .extensions) (leaf ∷ rest))
   unfolding candidatesAt ancestor
   reduction-candidate leaf rest zero a f = absurd (none-some a)
   reduction-candidate leaf rest (suc h) a f =
@@ -174,23 +174,23 @@ module _ (t : Table) (bound : ℕ) (x : Tableau) where
       Memᴰ·append-left _ m
 
   extension-candidate :
-      (leaf : Leaf) (rest : List Leaf) (i j : ℕ) {clause : Clause} {m : Literal Variable} → x .extensions < bound
-      → getElem? (allClauses t) i ≡ some clause → getElem? (copyOf (suc (x .extensions)) clause) j ≡ some m
-      → fits (leaf .literal) m ≡ true → List·Memᴰ (Extension i j) (candidatesAt t bound (x .extensions) (leaf ∷ rest))
+      (leaf : Leaf) (rest : List Leaf) (i j : ℕ) {clause : Clause} {m : Literal Variable} → MayExtend S x leaf
+      → getElem? (allClauses (S .table)) i ≡ some clause → getElem? (copyOf (suc (x .extensions)) clause) j ≡ some m
+      → fits (leaf .literal) m ≡ true → List·Memᴰ (Extension i j) (candidatesAt S (x .extensions) (leaf ∷ rest))
   unfolding candidatesAt
   extension-candidate leaf rest i j u c a f =
       let k : 0 + i ≡ i = omega arith in
-      let m = extensions-have (leaf .literal) (suc (x .extensions)) 0 (allClauses t) i j c a f in
-      Memᴰ·append-right (reductions (leaf .literal) 1 (leaf .branch)) (rw (lt-ltb _ _ u) (rw k at m))
+      let m = extensions-have (leaf .literal) (suc (x .extensions)) 0 (allClauses (S .table)) i j c a f in
+      Memᴰ·append-right (reductions (leaf .literal) 1 (leaf .branch)) (rw (u .0, lt-ltb _ _ (u .1)) (rw k at m))
 
-  does-candidate : {s : Step} {y : Tableau} → Does t bound x s y → List·Memᴰ s (candidatesAt t bound (x .extensions) (x .leaves))
+  does-candidate : {s : Step} {y : Tableau} → Does S x s y → List·Memᴰ s (candidatesAt S (x .extensions) (x .leaves))
   does-candidate (reduces {leaf = leaf} {rest = rest} {height = height} l a f e) = rw l (reduction-candidate leaf rest height a f)
   does-candidate (extends {leaf = leaf} {rest = rest} {i = i} {j = j} l u k a f e) = rw l (extension-candidate leaf rest i j u k a f)
 
   -- a candidate can be taken
   reduction-taken :
       (leaf : Leaf) (rest : List Leaf) {s : Step} → List·Memᴰ s (reductions (leaf .literal) 1 (leaf .branch))
-      → (y : Tableau) × (treated t bound x (leaf ∷ rest) s ≡ some y)
+      → (y : Tableau) × (treated S x (leaf ∷ rest) s ≡ some y)
   unfolding treated ancestor reduced
   reduction-taken leaf rest {s} i =
       let o : Offer Reduction (leaf .literal) 1 (leaf .branch) s = offered-is Reduction (leaf .literal) 1 (leaf .branch) (rw reductions-offered at i) in
@@ -198,31 +198,31 @@ module _ (t : Table) (bound : ℕ) (x : Tableau) where
       rw (o .is, k, o .there, o .fitting) (_, refl)
 
   extension-taken :
-      (leaf : Leaf) (rest : List Leaf) {s : Step} → ltb (x .extensions) bound ≡ true
-      → List·Memᴰ s (extensions (leaf .literal) (suc (x .extensions)) 0 (allClauses t))
-      → (y : Tableau) × (treated t bound x (leaf ∷ rest) s ≡ some y)
+      (leaf : Leaf) (rest : List Leaf) {s : Step} → mayExtend S (x .extensions) leaf ≡ true
+      → List·Memᴰ s (extensions (leaf .literal) (suc (x .extensions)) 0 (allClauses (S .table)))
+      → (y : Tableau) × (treated S x (leaf ∷ rest) s ≡ some y)
   unfolding treated extended entered
   extension-taken leaf rest {s} g i =
-      let o : Entry (leaf .literal) (suc (x .extensions)) 0 (allClauses t) s = extensions-are (leaf .literal) (suc (x .extensions)) 0 (allClauses t) i in
+      let o : Entry (leaf .literal) (suc (x .extensions)) 0 (allClauses (S .table)) s = extensions-are (leaf .literal) (suc (x .extensions)) 0 (allClauses (S .table)) i in
       let k : 0 + o .number ≡ o .number = omega arith in
       let l : 0 + o .offer .place ≡ o .offer .place = omega arith in
       rw (o .offer .is, k, l, g, o .there, o .offer .there, o .offer .fitting) (_, refl)
 
-  candidate-taken : (leaves : List Leaf) {s : Step} → List·Memᴰ s (candidatesAt t bound (x .extensions) leaves) → (y : Tableau) × (treated t bound x leaves s ≡ some y)
+  candidate-taken : (leaves : List Leaf) {s : Step} → List·Memᴰ s (candidatesAt S (x .extensions) leaves) → (y : Tableau) × (treated S x leaves s ≡ some y)
   unfolding candidatesAt
   candidate-taken [] i = absurd (List·Memᴰ·not-nil i)
   candidate-taken (leaf ∷ rest) {s} i = go (List·Memᴰ·append-cases (reductions (leaf .literal) 1 (leaf .branch)) i)
     where
-      within : (b : Bool) → ltb (x .extensions) bound ≡ b
-          → List·Memᴰ s (cond b (extensions (leaf .literal) (suc (x .extensions)) 0 (allClauses t)) [])
-          → (y : Tableau) × (treated t bound x (leaf ∷ rest) s ≡ some y)
+      within : (b : Bool) → mayExtend S (x .extensions) leaf ≡ b
+          → List·Memᴰ s (cond b (extensions (leaf .literal) (suc (x .extensions)) 0 (allClauses (S .table))) [])
+          → (y : Tableau) × (treated S x (leaf ∷ rest) s ≡ some y)
       within true g j = extension-taken leaf rest g j
       within false g j = absurd (List·Memᴰ·not-nil j)
 
-      go : List·Memᴰ s (reductions (leaf .literal) 1 (leaf .branch)) ⊎ List·Memᴰ s (cond (ltb (x .extensions) bound) (extensions (leaf .literal) (suc (x .extensions)) 0 (allClauses t)) [])
-          → (y : Tableau) × (treated t bound x (leaf ∷ rest) s ≡ some y)
+      go : List·Memᴰ s (reductions (leaf .literal) 1 (leaf .branch)) ⊎ List·Memᴰ s (cond (mayExtend S (x .extensions) leaf) (extensions (leaf .literal) (suc (x .extensions)) 0 (allClauses (S .table))) [])
+          → (y : Tableau) × (treated S x (leaf ∷ rest) s ≡ some y)
       go (inl j) = reduction-taken leaf rest j
-      go (inr j) = within (ltb (x .extensions) bound) refl j
+      go (inr j) = within (mayExtend S (x .extensions) leaf) refl j
 
   -- the candidates stand in the stated order, so none is there twice
   reductions-first : (leaf : Leaf) (cs : List Clause) → All (λ s. All (Precedes s) (extensions (leaf .literal) (suc (x .extensions)) 0 cs)) (reductions (leaf .literal) 1 (leaf .branch))
@@ -238,24 +238,24 @@ module _ (t : Table) (bound : ℕ) (x : Tableau) where
   unfolding Precedes
   reductions-ordered leaf = rw reductions-offered (offered-ordered Reduction (leaf .literal) (λ i j l. l) 1 (leaf .branch))
 
-  candidates-ordered-at : (leaves : List Leaf) → Ordered Precedes (candidatesAt t bound (x .extensions) leaves)
+  candidates-ordered-at : (leaves : List Leaf) → Ordered Precedes (candidatesAt S (x .extensions) leaves)
   unfolding candidatesAt
   candidates-ordered-at [] = done
-  candidates-ordered-at (leaf ∷ rest) = go (ltb (x .extensions) bound)
+  candidates-ordered-at (leaf ∷ rest) = go (mayExtend S (x .extensions) leaf)
     where
-      go : (b : Bool) → Ordered Precedes (reductions (leaf .literal) 1 (leaf .branch) ++ cond b (extensions (leaf .literal) (suc (x .extensions)) 0 (allClauses t)) [])
-      go true = ordered-append (reductions-ordered leaf) (extensions-ordered (leaf .literal) (suc (x .extensions)) 0 (allClauses t)) (reductions-first leaf (allClauses t))
+      go : (b : Bool) → Ordered Precedes (reductions (leaf .literal) 1 (leaf .branch) ++ cond b (extensions (leaf .literal) (suc (x .extensions)) 0 (allClauses (S .table))) [])
+      go true = ordered-append (reductions-ordered leaf) (extensions-ordered (leaf .literal) (suc (x .extensions)) 0 (allClauses (S .table))) (reductions-first leaf (allClauses (S .table)))
       go false = ordered-append (reductions-ordered leaf) done (all-of (λ s. end) _)
 
-  pub candidate-steps : {s : Step} → List·Memᴰ s (candidates t bound x) → (y : Tableau) × (stepped t bound x s ≡ some y)
+  pub candidate-steps : {s : Step} → List·Memᴰ s (candidates S x) → (y : Tableau) × (stepped S x s ≡ some y)
   unfolding candidates stepped
   candidate-steps i = candidate-taken (x .leaves) i
 
-  pub steps-candidate : (s : Step) {y : Tableau} → stepped t bound x s ≡ some y → List·Memᴰ s (candidates t bound x)
+  pub steps-candidate : (s : Step) {y : Tableau} → stepped S x s ≡ some y → List·Memᴰ s (candidates S x)
   unfolding candidates
   steps-candidate s e = does-candidate (does s e)
 
-  pub candidates-ordered : Ordered Precedes (candidates t bound x)
+  pub candidates-ordered : Ordered Precedes (candidates S x)
   unfolding candidates
   candidates-ordered = candidates-ordered-at (x .leaves)
 
@@ -299,24 +299,24 @@ numbers-compared m n = go (decLt m n) (decLt n m)
     go (no p) (yes q) = more q
     go (no p) (no q) = same (omega arith)
 
-pub malformed-not-taken : (t : Table) (bound : ℕ) (x : Tableau) (leaves : List Leaf) {y : Tableau} → treated t bound x leaves Malformed ≡ some y → ⊥
+pub malformed-not-taken : (S : Setting) (x : Tableau) (leaves : List Leaf) {y : Tableau} → treated S x leaves Malformed ≡ some y → ⊥
 unfolding treated
-malformed-not-taken t bound x [] e = none-some e
-malformed-not-taken t bound x (leaf ∷ rest) e = none-some e
+malformed-not-taken S x [] e = none-some e
+malformed-not-taken S x (leaf ∷ rest) e = none-some e
 
 steps-compared :
-    (t : Table) (bound : ℕ) (x : Tableau) (r s : Step) {y z : Tableau} → stepped t bound x r ≡ some y → stepped t bound x s ≡ some z
+    (S : Setting) (x : Tableau) (r s : Step) {y z : Tableau} → stepped S x r ≡ some y → stepped S x s ≡ some z
     → Compared Precedes r s
 unfolding Precedes stepped
-steps-compared t bound x (Reduction h) (Reduction k) e f = go (numbers-compared h k)
+steps-compared S x (Reduction h) (Reduction k) e f = go (numbers-compared h k)
   where
     go : Compared (λ i j. i < j) h k → Compared Precedes (Reduction h) (Reduction k)
     go (less p) = less p
     go (same p) = same (ap Reduction p)
     go (more p) = more p
-steps-compared t bound x (Reduction h) (Extension i j) e f = less tt
-steps-compared t bound x (Extension i j) (Reduction k) e f = more tt
-steps-compared t bound x (Extension i j) (Extension k l) e f = go (numbers-compared i k) (numbers-compared j l)
+steps-compared S x (Reduction h) (Extension i j) e f = less tt
+steps-compared S x (Extension i j) (Reduction k) e f = more tt
+steps-compared S x (Extension i j) (Extension k l) e f = go (numbers-compared i k) (numbers-compared j l)
   where
     go : Compared (λ i j. i < j) i k → Compared (λ i j. i < j) j l → Compared Precedes (Extension i j) (Extension k l)
     go (less p) q = less (inl p)
@@ -324,9 +324,9 @@ steps-compared t bound x (Extension i j) (Extension k l) e f = go (numbers-compa
     go (same p) (same q) = same (rw (p, q))
     go (same p) (more q) = more (inr (sym p, q))
     go (more p) q = more (inl p)
-steps-compared t bound x (Reduction h) Malformed e f = absurd (malformed-not-taken t bound x (x .leaves) f)
-steps-compared t bound x (Extension i j) Malformed e f = absurd (malformed-not-taken t bound x (x .leaves) f)
-steps-compared t bound x Malformed s e f = absurd (malformed-not-taken t bound x (x .leaves) e)
+steps-compared S x (Reduction h) Malformed e f = absurd (malformed-not-taken S x (x .leaves) f)
+steps-compared S x (Extension i j) Malformed e f = absurd (malformed-not-taken S x (x .leaves) f)
+steps-compared S x Malformed s e f = absurd (malformed-not-taken S x (x .leaves) e)
 
 pub never-both-before : {ss rs : List Step} → Before ss rs → Before rs ss → ⊥
 never-both-before (at-once {s = s} {t = r} p) (at-once q) = precedes-not-itself s (precedes-through s r s p q)
@@ -335,9 +335,9 @@ never-both-before (later {s = s} b) (at-once q) = precedes-not-itself s q
 never-both-before (later b) (later c) = never-both-before b c
 
 -- where no leaf is open no step is taken
-pub no-leaf-no-step : (t : Table) (bound : ℕ) (x : Tableau) (s : Step) {y : Tableau} → x .leaves ≡ [] → stepped t bound x s ≡ some y → ⊥
+pub no-leaf-no-step : (S : Setting) (x : Tableau) (s : Step) {y : Tableau} → x .leaves ≡ [] → stepped S x s ≡ some y → ⊥
 unfolding stepped treated
-no-leaf-no-step t bound x s e f = none-some (rw e at f)
+no-leaf-no-step S x s e f = none-some (rw e at f)
 
 compared-after : (s : Step) {ps qs : List Step} → Compared Before ps qs → Compared Before (s ∷ ps) (s ∷ qs)
 compared-after s (less b) = less (later b)
@@ -346,20 +346,20 @@ compared-after s (more b) = more (later b)
 
 -- Two lists of steps that leave no leaf open are the same, or one comes before the other: none is a proper beginning of another.
 made-compared :
-    (t : Table) (bound : ℕ) {x y z : Tableau} {ps qs : List Step} → Made t bound x ps y → Made t bound x qs z → y .leaves ≡ [] → z .leaves ≡ []
+    (S : Setting) {x y z : Tableau} {ps qs : List Step} → Made S x ps y → Made S x qs z → y .leaves ≡ [] → z .leaves ≡ []
     → Compared Before ps qs
-made-compared t bound as-it-stands as-it-stands e f = same refl
-made-compared t bound {x} as-it-stands (by-step {s = s} h m) e f = absurd (no-leaf-no-step t bound x s e h)
-made-compared t bound {x} (by-step {s = s} h m) as-it-stands e f = absurd (no-leaf-no-step t bound x s f h)
-made-compared t bound {x} {z = z} (by-step {y = y} {s = r} {ss = ps} g l) (by-step {y = w} {s = s} {ss = qs} h m) e f =
-    go (steps-compared t bound x r s g h) (λ (k : Made t bound y qs z). made-compared t bound l k e f)
+made-compared S as-it-stands as-it-stands e f = same refl
+made-compared S {x} as-it-stands (by-step {s = s} h m) e f = absurd (no-leaf-no-step S x s e h)
+made-compared S {x} (by-step {s = s} h m) as-it-stands e f = absurd (no-leaf-no-step S x s f h)
+made-compared S {x} {z = z} (by-step {y = y} {s = r} {ss = ps} g l) (by-step {y = w} {s = s} {ss = qs} h m) e f =
+    go (steps-compared S x r s g h) (λ (k : Made S y qs z). made-compared S l k e f)
   where
-    go : Compared Precedes r s → (Made t bound y qs z → Compared Before ps qs) → Compared Before (r ∷ ps) (s ∷ qs)
+    go : Compared Precedes r s → (Made S y qs z → Compared Before ps qs) → Compared Before (r ∷ ps) (s ∷ qs)
     go (less p) rest = less (at-once p)
     go (same p) rest =
-        let e : w ≡ y = some-same (sym h ∙ ap (stepped t bound x) (sym p) ∙ g) in
+        let e : w ≡ y = some-same (sym h ∙ ap (stepped S x) (sym p) ∙ g) in
         rw (← p) (compared-after r (rest (rw e at m)))
     go (more p) rest = more (at-once p)
 
-pub closed-compared : (t : Table) (bound : ℕ) (rs ss : List Step) → Closed t bound rs → Closed t bound ss → Compared Before rs ss
-closed-compared t bound rs ss c d = made-compared t bound (c .made) (d .made) (c .no-leaf-open) (d .no-leaf-open)
+pub closed-compared : (S : Setting) (rs ss : List Step) → Closed S rs → Closed S ss → Compared Before rs ss
+closed-compared S rs ss c d = made-compared S (c .made) (d .made) (c .no-leaf-open) (d .no-leaf-open)

@@ -1,4 +1,4 @@
--- Document 01's questions to try, 1 to 11, as one equation between lists, closed by computation over files of words.
+-- Document 01's questions to try, 1 to 11, and one question more, as one equation between lists, closed by computation over files of words.
 use lib.Dec.{eqb}
 use lib.ListN.{length}
 use mathlib.Core.Bool.{cond}
@@ -15,13 +15,14 @@ use Rattle.table.specs.Syntax.{Table, under, literalUnder}
 use Rattle.table.specs.Decode.{tableOf}
 use Rattle.table.specs.File.{bodyOf, sizeFits, trailerFits, fingerprintFits, clausesFit, judgeRead, judgeBody, judge}
 use Rattle.table.proofs.Opened.{opened}
-use Rattle.rules.specs.Unify.{replace, solution, through, follow, occurs, after, unlessOccurs, bind, unlessSame, sameSymbol, ifSame, meetBy, eachBy, compareWithin, height, variables, heightOf, variablesOf, doubled, enough, unifies, meet, unify}
+use Rattle.rules.specs.Machinery.Unify.{replace, solution, through, follow, occurs, after, unlessOccurs, bind, unlessSame, sameSymbol, ifSame, meetBy, eachBy, compareWithin, height, variables, heightOf, variablesOf, doubled, enough, unifies, meet, unify}
+use Rattle.rules.specs.Setting.{Setting, base}
 use Rattle.rules.specs.Tableau.{fresh, copyOf, atom, fits, hang, start, ancestor, others, closing, reduced, questionsWith, entered, extended, treated, stepped, Closed}
-use Rattle.rules.specs.Order.{Before, reductions, entries, extensions, candidatesAt, candidates}
+use Rattle.rules.specs.Order.{Before, reductions, entries, extensions, candidatesAt, candidates, allClosed}
 use Rattle.rules.specs.Answer.{positive, disjunct, disjuncts, occurring, occurringAll, seen, firstsAfter, firsts, placeOf, numbered, joined, answerWords}
 use Rattle.rules.specs.Verdict.{statusOf, SearchVerdict, finds, finds-none, runs-out}
-use Rattle.rules.specs.System.Run as Run
-use Rattle.rules.specs.Play.{begin, boundBy, newest, performed, perform, Checking, passed, stopped, atEnd, refusal, onwards, checkFrom, check, checked, afterwards, allClosed, mostAdded, stepsLeft, reported, searchFor, answerOf, disjunctsOf}
+use Rattle.rules.specs.Machinery.Run as Run
+use Rattle.rules.specs.Machinery.Play.{begin, boundBy, newest, performed, perform, Checking, passed, stopped, atEnd, refusal, onwards, checkFrom, check, checked, afterwards, mostAdded, stepsLeft, reported, searchFor, answerOf, disjunctsOf}
 use Rattle.rules.proofs.System.Clash.{clash}
 use Rattle.rules.proofs.Demands.{none-exactly, found-is-first}
 
@@ -51,14 +52,14 @@ pub data Call : Type 0 where
   search : ℕ → ℕ → Call
   checking : ℕ → List ℕ → Call
 
-abbrev pub searched : Table → ℕ → SearchVerdict → Returned
-searched t bound (finds steps tries) = with-answer t (map encoded steps) tries (check t bound steps)
-searched t bound (finds-none tries) = without 10 tries
-searched t bound (runs-out tries) = without 11 tries
+abbrev pub searched : Setting → SearchVerdict → Returned
+searched S (finds steps tries) = with-answer (S .table) (map encoded steps) tries (check S steps)
+searched S (finds-none tries) = without 10 tries
+searched S (runs-out tries) = without 11 tries
 
 abbrev pub asked : Table → Call → Returned
-asked t (search bound budget) = searched t bound (searchFor t bound budget)
-asked t (checking bound proof) = with-answer t proof 0 (check t bound (map stepOf proof))
+asked t (search bound budget) = searched (base t bound) (searchFor (base t bound) budget)
+asked t (checking bound proof) = with-answer t proof 0 (check (base t bound) (map stepOf proof))
 
 -- a file is judged before anything is asked of it
 abbrev pub judged : Judgement → List ℕ → Call → Returned
@@ -114,6 +115,16 @@ three-terms =
 abbrev pub by-reduction : List ℕ
 by-reduction = whole 6 3 (0xC0000202 ∷ 0x80000001 ∷ 0x80000002 ∷ 0xC0000202 ∷ 0x80000001 ∷ 0x80008002 ∷ 0xC0000101 ∷ 0x80008001 ∷ [])
 
+-- One case more, with what the others have one at a time: an answer of two variables, a predicate at two arities, a clause of three literals
+-- and a question of two goals. p(X,f(Y)) or p(g(Y),X) or not p(Y); p(Z); q(W); ask p(U,V) and q(U), with p = 1, q = 2, f = 1, g = 2
+abbrev pub all-at-once : List ℕ
+all-at-once =
+    whole 17 4
+    (0xC0000A13 ∷ 0x80002001 ∷ 0x00000000 ∷ 0x40001001 ∷ 0x00000001 ∷ 0x80002001 ∷ 0x40001002 ∷ 0x00000001 ∷ 0x00000000 ∷ 0x80009001 ∷ 0x00000001
+    ∷ 0xC0000209 ∷ 0x80001001 ∷ 0x00000000
+    ∷ 0xC0000209 ∷ 0x80001002 ∷ 0x00000000
+    ∷ 0xC0000512 ∷ 0x8000A001 ∷ 0x00000000 ∷ 0x00000001 ∷ 0x80009002 ∷ 0x00000000 ∷ [])
+
 -- where no budget is named
 abbrev pub ample : ℕ
 ample = 4294967295
@@ -134,6 +145,8 @@ questions =
     ∷ record { file = mat-or-eve; call = checking 2 (0x40000000 ∷ []) }
     ∷ record { file = mat-or-eve; call = checking 2 (0x80000000 ∷ []) }
     ∷ record { file = other-time; call = checking 1 (0x40000000 ∷ []) }
+    ∷ record { file = all-at-once; call = search 5 ample }
+    ∷ record { file = all-at-once; call = search 4 ample }
     ∷ []
 
 abbrev pub expected : List Returned
@@ -173,6 +186,18 @@ expected =
     ∷ refusedAt 15 1
     ∷ refusedAt 12 0
     ∷ refusedAt 14 0
+    -- p(X,f(Y)) and q(X), or p(g(Y),X) and q(g(Y))
+    ∷ record {
+      status = 0;
+      place = 0;
+      proof = 0x40000000 ∷ 0x40000003 ∷ 0x40000002 ∷ 0x40000001 ∷ 0x40000002 ∷ [];
+      disjuncts = 2;
+      answer =
+          0x80002001 ∷ 0x00000000 ∷ 0x40001001 ∷ 0x00000001 ∷ 0x80001002 ∷ 0x00000000
+          ∷ 0x80002001 ∷ 0x40001002 ∷ 0x00000001 ∷ 0x00000000 ∷ 0x80001002 ∷ 0x40001002 ∷ 0x00000001 ∷ [];
+      tries = 6;
+    }
+    ∷ without 10 10
     ∷ []
 
 unfoldable pub played : Unit {0}
@@ -185,12 +210,12 @@ unfolding played
 starred-cases = refl
 
 -- what cases 2 and 1 mean: with one extension there is no closed tableau, with two the steps found are the first
-pub none-with-one : (steps : List Step) → ¬ Closed (tableOf (bodyOf mat-or-eve)) 1 steps
+pub none-with-one : (steps : List Step) → ¬ Closed (base (tableOf (bodyOf mat-or-eve)) 1) steps
 unfolding played
-none-with-one = none-exactly (tableOf (bodyOf mat-or-eve)) 1 4 (λ (e : finds-none 4 ≡ runs-out 4). clash (cc)) .0 (4, refl)
+none-with-one = none-exactly (base (tableOf (bodyOf mat-or-eve)) 1) 4 (λ (e : finds-none 4 ≡ runs-out 4). clash (cc)) .0 (4, refl)
 
 pub first-with-two :
-    (other : List Step) → Closed (tableOf (bodyOf mat-or-eve)) 2 other
+    (other : List Step) → Closed (base (tableOf (bodyOf mat-or-eve)) 2) other
     → (other ≡ Extension 0 0 ∷ Extension 1 0 ∷ []) ⊎ Before (Extension 0 0 ∷ Extension 1 0 ∷ []) other
 unfolding played
-first-with-two = found-is-first (tableOf (bodyOf mat-or-eve)) 2 3 (Extension 0 0 ∷ Extension 1 0 ∷ []) 3 refl .1
+first-with-two = found-is-first (base (tableOf (bodyOf mat-or-eve)) 2) 3 (Extension 0 0 ∷ Extension 1 0 ∷ []) 3 refl .1

@@ -5,51 +5,52 @@ use mathlib.Core.Path.{_≡_, refl}
 use Prim.Native.Nat.{ℕ, suc}
 use Rattle.words.specs.declared.Step.{Step}
 use Rattle.words.specs.declared.Step.the-variants.{Reduction, Extension, Malformed}
-use Rattle.table.specs.Syntax.{var, Table}
+use Rattle.table.specs.Syntax.{var}
 use Rattle.rules.specs.Substitution.{Substitution, Solves, Unifiable}
+use Rattle.rules.specs.Setting.{Setting}
 use Rattle.rules.specs.Tableau.{Leaf, Tableau, start, stepped, Made, as-it-stands, by-step, Closed}
 use Rattle.rules.specs.Verdict.{CheckVerdict, accepted, refused, Checks, no-leaf, some-leaf, no-step, no-tableau, no-unifier, taken}
-use Rattle.rules.specs.Play.{Play, begin, Performed, goes-on, not-possible, clashes, circular, perform, Checking, passed, stopped, atEnd, refusal, onwards, checkFrom, check, checked}
+use Rattle.rules.specs.Machinery.Play.{Play, begin, Performed, goes-on, not-possible, clashes, circular, perform, Checking, passed, stopped, atEnd, refusal, onwards, checkFrom, check, checked}
 use Rattle.rules.proofs.System.Clash.{clash}
 use Rattle.rules.proofs.Candidates.{malformed-not-taken}
 use Rattle.rules.proofs.Play.{Sound, sound-begin, unifiable, stepped-one-more, Told, told}
 
-module _ (t : Table) (bound : ℕ) where
-  ends : (p : Play) (place : ℕ) (leaves : List Leaf) → p .tableau .leaves ≡ leaves → Checks t bound (p .tableau) place [] (checked (atEnd p place leaves))
+module _ (S : Setting) where
+  ends : (p : Play) (place : ℕ) (leaves : List Leaf) → p .tableau .leaves ≡ leaves → Checks S (p .tableau) place [] (checked (atEnd p place leaves))
   unfolding atEnd checked
   ends p place [] e = no-leaf e
   ends p place (leaf ∷ rest) e = some-leaf e
 
-  refuses : (p : Play) (s : Step) (ss : List Step) (place : ℕ) → stepped t bound (p .tableau) s ≡ none → Checks t bound (p .tableau) place (s ∷ ss) (refused (refusal s) place)
+  refuses : (p : Play) (s : Step) (ss : List Step) (place : ℕ) → stepped S (p .tableau) s ≡ none → Checks S (p .tableau) place (s ∷ ss) (refused (refusal s) place)
   unfolding refusal
   refuses p (Reduction h) ss place e = no-tableau (λ (f : Reduction h ≡ Malformed). clash (cc)) e
   refuses p (Extension i j) ss place e = no-tableau (λ (f : Extension i j ≡ Malformed). clash (cc)) e
   refuses p Malformed ss place e = no-step
 
-  goes : (p : Play) (s : Step) (ss : List Step) (place : ℕ) (o : Performed) → Told t bound p s o
-      → ((q : Play) → Sound q → Checks t bound (q .tableau) (suc place) ss (checked (checkFrom t bound q (suc place) ss)))
-      → Checks t bound (p .tableau) place (s ∷ ss) (checked (onwards o s place (λ q. checkFrom t bound q (suc place) ss)))
+  goes : (p : Play) (s : Step) (ss : List Step) (place : ℕ) (o : Performed) → Told S p s o
+      → ((q : Play) → Sound q → Checks S (q .tableau) (suc place) ss (checked (checkFrom S q (suc place) ss)))
+      → Checks S (p .tableau) place (s ∷ ss) (checked (onwards o s place (λ q. checkFrom S q (suc place) ss)))
   unfolding onwards checked
   goes p s ss place (goes-on q) h rest = taken (h .0) (unifiable q (h .1)) (rest q (h .1))
   goes p s ss place not-possible h rest = refuses p s ss place h
   goes p s ss place clashes h rest = no-unifier (h .1) (h .2)
   goes p s ss place circular h rest = no-unifier (h .1) (h .2)
 
-  check-from : (ss : List Step) (p : Play) (place : ℕ) → Sound p → Checks t bound (p .tableau) place ss (checked (checkFrom t bound p place ss))
+  check-from : (ss : List Step) (p : Play) (place : ℕ) → Sound p → Checks S (p .tableau) place ss (checked (checkFrom S p place ss))
   unfolding checkFrom
   check-from [] p place h = ends p place (p .tableau .leaves) refl
-  check-from (s ∷ ss) p place h = goes p s ss place (perform t bound p s) (told t bound p s h) (λ q k. check-from ss q (suc place) k)
+  check-from (s ∷ ss) p place h = goes p s ss place (perform S p s) (told S p s h) (λ q k. check-from ss q (suc place) k)
 
-  pub checker-says : (ss : List Step) → Checks t bound (start t) 0 ss (checked (check t bound ss))
+  pub checker-says : (ss : List Step) → Checks S (start (S .table)) 0 ss (checked (check S ss))
   unfolding check begin
-  checker-says ss = check-from ss (begin t) 0 (sound-begin t)
+  checker-says ss = check-from ss (begin (S .table)) 0 (sound-begin (S .table))
 
   -- there are no two verdicts
-  malformed-nothing : (x : Tableau) {y : Tableau} → stepped t bound x Malformed ≡ some y → ⊥
+  malformed-nothing : (x : Tableau) {y : Tableau} → stepped S x Malformed ≡ some y → ⊥
   unfolding stepped
-  malformed-nothing x e = malformed-not-taken t bound x (x .leaves) e
+  malformed-nothing x e = malformed-not-taken S x (x .leaves) e
 
-  pub one-verdict : {x : Tableau} {place : ℕ} {ss : List Step} {c d : CheckVerdict} → Checks t bound x place ss c → Checks t bound x place ss d → c ≡ d
+  pub one-verdict : {x : Tableau} {place : ℕ} {ss : List Step} {c d : CheckVerdict} → Checks S x place ss c → Checks S x place ss d → c ≡ d
   one-verdict (no-leaf e) (no-leaf f) = refl
   one-verdict (no-leaf e) (some-leaf f) = clash (cc)
   one-verdict (some-leaf e) (no-leaf f) = clash (cc)
@@ -72,31 +73,31 @@ module _ (t : Table) (bound : ℕ) where
   one-verdict (taken {y = y} e u c) (taken {y = z} f v d) = let h : z ≡ y = cc in one-verdict c (rw h at d)
 
   -- a solution of the pairs of a later tableau solves those of an earlier one
-  pub earlier-solved : {x z : Tableau} {ss : List Step} (σ : Substitution) → Made t bound x ss z → Solves σ (z .pairs) → Solves σ (x .pairs)
+  pub earlier-solved : {x z : Tableau} {ss : List Step} (σ : Substitution) → Made S x ss z → Solves σ (z .pairs) → Solves σ (x .pairs)
   unfolding Solves
   earlier-solved σ as-it-stands u = u
   earlier-solved {x} σ (by-step {s = s} e m) u =
-      let f = stepped-one-more t bound x s e in
+      let f = stepped-one-more S x s e in
       let v : Solves σ (f .0 ∷ x .pairs) = rw (f .1) at (earlier-solved σ m u) in
       v .1
 
   -- the steps of a closed tableau are accepted, and what is accepted is closed
-  pub made-accepted : {x z : Tableau} {ss : List Step} (place : ℕ) → Made t bound x ss z → z .leaves ≡ [] → Unifiable (z .pairs)
-      → Checks t bound x place ss (accepted z)
+  pub made-accepted : {x z : Tableau} {ss : List Step} (place : ℕ) → Made S x ss z → z .leaves ≡ [] → Unifiable (z .pairs)
+      → Checks S x place ss (accepted z)
   made-accepted place as-it-stands e u = no-leaf e
   made-accepted place (by-step f m) e u =
       taken f (record { by = u .by; solves = earlier-solved (u .by) m (u .solves) }) (made-accepted (suc place) m e u)
 
   Accepted : Tableau → List Step → CheckVerdict → Type 0
-  Accepted x ss (accepted z) = Made t bound x ss z × (z .leaves ≡ []) × Unifiable (z .pairs)
+  Accepted x ss (accepted z) = Made S x ss z × (z .leaves ≡ []) × Unifiable (z .pairs)
   Accepted x ss (refused r place) = Unit {0}
 
-  after-step : (x y : Tableau) (s : Step) (ss : List Step) (c : CheckVerdict) → stepped t bound x s ≡ some y → Accepted y ss c → Accepted x (s ∷ ss) c
+  after-step : (x y : Tableau) (s : Step) (ss : List Step) (c : CheckVerdict) → stepped S x s ≡ some y → Accepted y ss c → Accepted x (s ∷ ss) c
   unfolding Accepted
   after-step x y s ss (accepted z) e a = (by-step e (a .0), a .1, a .2)
   after-step x y s ss (refused r place) e a = tt
 
-  accepted-made : {x : Tableau} {place : ℕ} {ss : List Step} {c : CheckVerdict} → Checks t bound x place ss c → Unifiable (x .pairs) → Accepted x ss c
+  accepted-made : {x : Tableau} {place : ℕ} {ss : List Step} {c : CheckVerdict} → Checks S x place ss c → Unifiable (x .pairs) → Accepted x ss c
   unfolding Accepted
   accepted-made (no-leaf e) u = (as-it-stands, e, u)
   accepted-made (some-leaf e) u = tt
@@ -105,15 +106,15 @@ module _ (t : Table) (bound : ℕ) where
   accepted-made (no-unifier e v) u = tt
   accepted-made {x} (taken {y = y} {s = s} {ss = ss} {c = c} e v d) u = after-step x y s ss c e (accepted-made d v)
 
-  pub accepted-closed : {ss : List Step} {z : Tableau} → Checks t bound (start t) 0 ss (accepted z) → Made t bound (start t) ss z × (z .leaves ≡ []) × Unifiable (z .pairs)
+  pub accepted-closed : {ss : List Step} {z : Tableau} → Checks S (start (S .table)) 0 ss (accepted z) → Made S (start (S .table)) ss z × (z .leaves ≡ []) × Unifiable (z .pairs)
   unfolding Accepted start Solves
   accepted-closed d = accepted-made d (record { by = var; solves = tt })
 
-  pub closed-accepted : {ss : List Step} (c : Closed t bound ss) → Checks t bound (start t) 0 ss (accepted (c .tableau))
+  pub closed-accepted : {ss : List Step} (c : Closed S ss) → Checks S (start (S .table)) 0 ss (accepted (c .tableau))
   closed-accepted c = made-accepted 0 (c .made) (c .no-leaf-open) (c .unifiable)
 
 -- a play that was passed is sound
-module _ (t : Table) (bound : ℕ) where
+module _ (S : Setting) where
   SoundIf : Checking → Type 0
   SoundIf (passed p) = Sound p
   SoundIf (stopped r place) = Unit {0}
@@ -123,19 +124,19 @@ module _ (t : Table) (bound : ℕ) where
   end-sound p place [] h = h
   end-sound p place (leaf ∷ rest) h = tt
 
-  onwards-sound : (p : Play) (s : Step) (ss : List Step) (place : ℕ) (o : Performed) → Told t bound p s o
-      → ((q : Play) → Sound q → SoundIf (checkFrom t bound q (suc place) ss)) → SoundIf (onwards o s place (λ q. checkFrom t bound q (suc place) ss))
+  onwards-sound : (p : Play) (s : Step) (ss : List Step) (place : ℕ) (o : Performed) → Told S p s o
+      → ((q : Play) → Sound q → SoundIf (checkFrom S q (suc place) ss)) → SoundIf (onwards o s place (λ q. checkFrom S q (suc place) ss))
   unfolding SoundIf onwards
   onwards-sound p s ss place (goes-on q) h rest = rest q (h .1)
   onwards-sound p s ss place not-possible h rest = tt
   onwards-sound p s ss place clashes h rest = tt
   onwards-sound p s ss place circular h rest = tt
 
-  from-sound : (ss : List Step) (p : Play) (place : ℕ) → Sound p → SoundIf (checkFrom t bound p place ss)
+  from-sound : (ss : List Step) (p : Play) (place : ℕ) → Sound p → SoundIf (checkFrom S p place ss)
   unfolding checkFrom
   from-sound [] p place h = end-sound p place (p .tableau .leaves) h
-  from-sound (s ∷ ss) p place h = onwards-sound p s ss place (perform t bound p s) (told t bound p s h) (λ q k. from-sound ss q (suc place) k)
+  from-sound (s ∷ ss) p place h = onwards-sound p s ss place (perform S p s) (told S p s h) (λ q k. from-sound ss q (suc place) k)
 
-  pub passed-sound : (ss : List Step) (p : Play) → check t bound ss ≡ passed p → Sound p
+  pub passed-sound : (ss : List Step) (p : Play) → check S ss ≡ passed p → Sound p
   unfolding SoundIf check
-  passed-sound ss p e = rw e at (from-sound ss (begin t) 0 (sound-begin t))
+  passed-sound ss p e = rw e at (from-sound ss (begin (S .table)) 0 (sound-begin (S .table)))

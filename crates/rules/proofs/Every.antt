@@ -62,7 +62,3 @@ pub ordered-append :
     {A : Type 0} {R : A → A → Type 0} {xs ys : List A} → Ordered R xs → Ordered R ys → All (λ a. All (R a) ys) xs → Ordered R (xs ++ ys)
 ordered-append done q r = q
 ordered-append (p ahead ps) q r = all-append p (all-first r) ahead ordered-append ps q (all-rest r)
-
-pub map-append : {A B : Type 0} (f : A → B) (xs ys : List A) → map f (xs ++ ys) ≡ map f xs ++ map f ys
-map-append f [] ys = refl
-map-append f (x ∷ xs) ys = ap (λ (l : List _). f x ∷ l) (map-append f xs ys)

@@ -30,6 +30,11 @@ ofCopy σ copy number = σ (record { copy = copy; number = number })
 unfoldable pub leafUnder : Substitution → Leaf → Leaf
 leafUnder σ leaf = record { literal = literalUnder σ (leaf .literal); branch = map (literalUnder σ) (leaf .branch) }
 
+-- with the leaf's own sign
+pub sign-under : (σ : Substitution) (leaf : Leaf) → leafUnder σ leaf .literal .negative ≡ leaf .literal .negative
+unfolding leafUnder literalUnder
+sign-under σ leaf = refl
+
 module _ {X Y Z : Type 0} (σ : Y → Term Z) (τ : X → Term Y) where
   pub literal-under : (l : Literal X) → literalUnder σ (literalUnder τ l) ≡ literalUnder (λ x. under σ (τ x)) l
   unfolding literalUnder

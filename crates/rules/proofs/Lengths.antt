@@ -9,16 +9,17 @@ use Rattle.words.specs.declared.Step.{Step}
 use Rattle.words.specs.declared.Step.the-variants.{Reduction, Extension, Malformed}
 use Rattle.table.specs.Syntax.{Literal, literalUnder, Clause, Table, allClauses}
 use Rattle.rules.specs.Substitution.{Variable}
+use Rattle.rules.specs.Setting.{Setting}
 use Rattle.rules.specs.Tableau.{fresh, copyOf, Leaf, Tableau, hang, start, ancestor, others, Made, as-it-stands, by-step, Closed}
 use Rattle.rules.proofs.Lifting.{within-bound}
 use Rattle.rules.proofs.Lists.{none-some, All, all-at, all-append, all-right, all-more, some-below, length-others}
 use Rattle.rules.proofs.Steps.{Does, reduces, extends, does, does-within}
 
 -- a step whose numbers are within the table's and the bound's
-abbrev pub InRange : Table → ℕ → Step → Type 0
-InRange t bound (Reduction height) = (0 < height) × (height ≤ bound)
-InRange t bound (Extension clause literal) = (clause < length (allClauses t)) × (literal < 7)
-InRange t bound Malformed = ⊥
+abbrev pub InRange : Setting → Step → Type 0
+InRange S (Reduction height) = (0 < height) × (height ≤ S .bound)
+InRange S (Extension clause literal) = (clause < length (allClauses (S .table))) × (literal < 7)
+InRange S Malformed = ⊥
 
 length-hang : (branch ls : List (Literal Variable)) → length (hang branch ls) ≡ length ls
 unfolding hang
@@ -32,9 +33,9 @@ length-copy copy clause = length-map (clause .literals) (literalUnder (fresh cop
 abbrev pub Short : Table → Type 0
 Short t = All (λ c. length (c .literals) ≤ 7) (allClauses t)
 
-module _ (t : Table) (short : Short t) {bound : ℕ} where
+module _ (S : Setting) (short : Short (S .table)) where
   -- a step closes one leaf, and an extension opens at most six
-  step-leaves : {x y : Tableau} {s : Step} → Does t bound x s y
+  step-leaves : {x y : Tableau} {s : Step} → Does S x s y
       → suc (length (y .leaves)) + 6 * x .extensions ≤ length (x .leaves) + 6 * y .extensions
   unfolding others
   step-leaves (reduces l a f e) = rw (← e, l) (omega arith)
@@ -44,27 +45,27 @@ module _ (t : Table) (short : Short t) {bound : ℕ} where
       let q = length-hang (leaf .literal ∷ leaf .branch) (others j copy) in
       let r = length-others copy j a in
       let o = length-copy (suc (x .extensions)) clause in
-      let h = all-at (λ c. length (c .literals) ≤ 7) (allClauses t) i c short in
+      let h = all-at (λ c. length (c .literals) ≤ 7) (allClauses (S .table)) i c short in
       rw (← e, l) (omega arith)
 
-  pub made-leaves : {x z : Tableau} {ss : List Step} → Made t bound x ss z
+  pub made-leaves : {x z : Tableau} {ss : List Step} → Made S x ss z
       → length ss + length (z .leaves) + 6 * x .extensions ≤ length (x .leaves) + 6 * z .extensions
   made-leaves as-it-stands = omega arith
   made-leaves (by-step {s = s} e m) = let h = step-leaves (does s e) in let k = made-leaves m in omega arith
 
   -- a proof has at most 7 + 6 × bound steps
-  pub steps-bounded : {ss : List Step} → Closed t bound ss → length ss ≤ 7 + 6 * bound
+  pub steps-bounded : {ss : List Step} → Closed S ss → length ss ≤ 7 + 6 * S .bound
   unfolding start allClauses All
   steps-bounded c =
       let h = made-leaves (c .made) in
       let k = within-bound (c .made) zero-le in
-      let p = length-hang [] (copyOf 0 (t .question)) in
-      let q = length-copy 0 (t .question) in
-      let r = all-right (λ c. length (c .literals) ≤ 7) (t .clauses) (t .question ∷ []) short .0 in
+      let p = length-hang [] (copyOf 0 (S .table .question)) in
+      let q = length-copy 0 (S .table .question) in
+      let r = all-right (λ c. length (c .literals) ≤ 7) (S .table .clauses) (S .table .question ∷ []) short .0 in
       omega arith
 
-pub at-most-199 : (t : Table) → Short t → {bound : ℕ} {ss : List Step} → bound ≤ 32 → Closed t bound ss → length ss ≤ 199
-at-most-199 t short h c = let k = steps-bounded t short c in omega arith
+pub at-most-199 : (S : Setting) → Short (S .table) → {ss : List Step} → S .bound ≤ 32 → Closed S ss → length ss ≤ 199
+at-most-199 S short h c = let k = steps-bounded S short c in omega arith
 
 -- the branch of a leaf is at most as long as the extensions made
 abbrev pub Shallow : Tableau → Type 0
@@ -80,8 +81,8 @@ unfolding ancestor
 ancestor-height zero branch e = absurd (none-some e)
 ancestor-height (suc h) branch e = let k = some-below branch h e in (omega arith, k)
 
-module _ {t : Table} {bound : ℕ} where
-  step-shallow : {x y : Tableau} {s : Step} → Does t bound x s y → Shallow x → Shallow y
+module _ {S : Setting} where
+  step-shallow : {x y : Tableau} {s : Step} → Does S x s y → Shallow x → Shallow y
   unfolding All
   step-shallow (reduces l a f e) h = rw (← e) ((rw l at h) .1)
   step-shallow {x} (extends {leaf = leaf} {rest = rest} {clause = clause} {j = j} l u c a f e) h =
@@ -93,7 +94,7 @@ module _ {t : Table} {bound : ℕ} where
       (all-append (λ leaf. length (leaf .branch) ≤ n) hung rest
       (hang-shallow n (leaf .literal ∷ leaf .branch) (others j (copyOf n clause)) (omega arith)) old)
 
-  pub made-shallow : {x z : Tableau} {ss : List Step} → Made t bound x ss z → Shallow x → Shallow z
+  pub made-shallow : {x z : Tableau} {ss : List Step} → Made S x ss z → Shallow x → Shallow z
   made-shallow as-it-stands h = h
   made-shallow (by-step {s = s} e m) h = made-shallow m (step-shallow (does s e) h)
 
@@ -101,8 +102,8 @@ pub start-shallow : (t : Table) → Shallow (start t)
 unfolding start
 start-shallow t = hang-shallow 0 [] (copyOf 0 (t .question)) zero-le
 
-module _ (t : Table) (short : Short t) {bound : ℕ} where
-  step-in-range : {x y : Tableau} {s : Step} → Does t bound x s y → x .extensions ≤ bound → Shallow x → InRange t bound s
+module _ (S : Setting) (short : Short (S .table)) where
+  step-in-range : {x y : Tableau} {s : Step} → Does S x s y → x .extensions ≤ S .bound → Shallow x → InRange S s
   unfolding All
   step-in-range (reduces {leaf = leaf} {height = height} l a f e) b h =
       let k = (rw l at h) .0 in
@@ -111,10 +112,10 @@ module _ (t : Table) (short : Short t) {bound : ℕ} where
   step-in-range {x} (extends {clause = clause} {i = i} {j = j} l u c a f e) b h =
       let k = some-below (copyOf (suc (x .extensions)) clause) j a in
       let q = length-copy (suc (x .extensions)) clause in
-      let r = all-at (λ c. length (c .literals) ≤ 7) (allClauses t) i c short in
-      (some-below (allClauses t) i c, omega arith)
+      let r = all-at (λ c. length (c .literals) ≤ 7) (allClauses (S .table)) i c short in
+      (some-below (allClauses (S .table)) i c, omega arith)
 
-  pub made-in-range : {x z : Tableau} {ss : List Step} → Made t bound x ss z → x .extensions ≤ bound → Shallow x → All (InRange t bound) ss
+  pub made-in-range : {x z : Tableau} {ss : List Step} → Made S x ss z → x .extensions ≤ S .bound → Shallow x → All (InRange S) ss
   unfolding All
   made-in-range as-it-stands b h = tt
   made-in-range (by-step {s = s} e m) b h =
@@ -122,6 +123,6 @@ module _ (t : Table) (short : Short t) {bound : ℕ} where
       (step-in-range d b h, made-in-range m (does-within d b) (step-shallow d h))
 
   -- no step is malformed, heights are 1 to the bound, clauses and literals are the table's
-  pub steps-in-range : {ss : List Step} → Closed t bound ss → All (InRange t bound) ss
+  pub steps-in-range : {ss : List Step} → Closed S ss → All (InRange S) ss
   unfolding start
-  steps-in-range c = made-in-range (c .made) zero-le (start-shallow t)
+  steps-in-range c = made-in-range (c .made) zero-le (start-shallow (S .table))

@@ -4,6 +4,7 @@ pub mod Instances
 pub mod Trees
 pub mod Lifting
 pub mod Truth
+pub mod Locality
 pub mod Growing
 pub mod Lengths
 pub mod Reordered
@@ -13,11 +14,13 @@ pub mod Candidates
 pub mod Distinct
 pub mod Answer
 pub mod Variables
+pub mod Reading
 pub mod Play
 pub mod Checker
 pub mod Search
 pub mod Demands
 pub mod Cases
+pub mod Witnesses
 pub mod Substitution
 pub mod System
 pub mod Unify

@@ -9,35 +9,36 @@ use mathlib.Core.Option.{some}
 use mathlib.Core.Path.{_≡_, refl, sym, _∙_, ap}
 use native.Mathlib.Nat.{add-zero, suc-add, add-suc}
 use native.Mathlib.Omega.{arith}
-use Prim.Native.Nat.{ℕ, zero, suc, _+_, _≤_, _<_, zero-le}
+use Prim.Native.Nat.{ℕ, zero, suc, _+_, _≤_, zero-le}
 use Rattle.words.specs.declared.Step.{Step}
 use Rattle.words.specs.declared.Step.the-variants.{Reduction, Extension}
-use Rattle.table.specs.Syntax.{under, Literal, literalUnder, Clause, Table, allClauses}
+use Rattle.table.specs.Syntax.{Literal, literalUnder, Clause, Table, allClauses}
 use Rattle.rules.specs.Substitution.{Variable, Substitution, Solves}
+use Rattle.rules.specs.Setting.{Profile, Setting, over}
 use Rattle.rules.specs.Tableau.{afterReduction, fresh, copyOf, fits, Leaf, Tableau, hang, start, ancestor, others, closing}
 use Rattle.rules.specs.Tableau.{questionsWith, Made, as-it-stands, by-step, Closed}
 use Rattle.rules.proofs.Instances.{Instance, instance, opposite, ofCopy, leafUnder, ancestor-map, ancestor-map-back, copy-under}
-use Rattle.rules.proofs.Instances.{hang-under, hung-under, copy-some, fit-opposite, opposite-fits, opposite-atoms}
+use Rattle.rules.proofs.Instances.{sign-under, hang-under, hung-under, copy-some, fit-opposite, opposite-fits, opposite-atoms}
 use Rattle.rules.proofs.Lists.{map-some-back, map-nil-back, map-cons-back}
-use Rattle.rules.proofs.Steps.{afterEntry, Does, reduces, extends, does, done, does-within}
+use Rattle.rules.proofs.Steps.{afterEntry, MayExtend, Does, reduces, extends, does, done, does-within}
 use Rattle.rules.proofs.Trees.{Tree, bare, reduction, extension, size, instances, steps, asked, InstanceTree}
 
-module _ (σ : Substitution) {t : Table} {bound : ℕ} where
+module _ (σ : Substitution) {S : Setting} where
   -- a step closes its own pair and keeps the older ones
-  solved-before : {x y : Tableau} {s : Step} → Does t bound x s y → Solves σ (y .pairs) → Solves σ (x .pairs)
+  solved-before : {x y : Tableau} {s : Step} → Does S x s y → Solves σ (y .pairs) → Solves σ (x .pairs)
   unfolding Solves
   solved-before (reduces l a f e) h = let k = rw (← e) at h in k .1
   solved-before (extends l u c a f e) h = let k = rw (← e) at h in k .1
 
-  pub solved-earlier : {x z : Tableau} {ss : List Step} → Made t bound x ss z → Solves σ (z .pairs) → Solves σ (x .pairs)
+  pub solved-earlier : {x z : Tableau} {ss : List Step} → Made S x ss z → Solves σ (z .pairs) → Solves σ (x .pairs)
   solved-earlier as-it-stands h = h
   solved-earlier (by-step {s = s} e m) h = solved-before (does s e) (solved-earlier m h)
 
 -- the tree that a substitution makes of the leaves of x, where the steps lead from x to z
-pub record Grounded (σ : Substitution) (t : Table) (x z : Tableau) (ss : List Step) : Type 0 where
+pub record Grounded (σ : Substitution) (rules : Profile) (t : Table) (x z : Tableau) (ss : List Step) : Type 0 where
   pub leaves : List Leaf
   pub as-leaves : map (leafUnder σ) (x .leaves) ≡ leaves
-  pub tree : Tree t leaves
+  pub tree : Tree rules t leaves
   pub same-steps : steps tree ≡ ss
   pub extensions : x .extensions + size tree ≡ z .extensions
   pub questions : map (ofCopy σ) (z .questions) ≡ map (ofCopy σ) (x .questions) ++ asked tree
@@ -48,10 +49,10 @@ one-more : (b : Bool) (f : ℕ → Instance) (copies : List ℕ) (copy : ℕ) (�
 one-more true f copies copy θs = rw (map-append f copies (copy ∷ []), append-assoc (map f copies) (f copy ∷ []) θs)
 one-more false f copies copy θs = refl
 
-module _ (σ : Substitution) {t : Table} {x z : Tableau} {ss : List Step} {leaf : Leaf} {rest : List Leaf} where
+module _ (σ : Substitution) {rules : Profile} {t : Table} {x z : Tableau} {ss : List Step} {leaf : Leaf} {rest : List Leaf} where
   grounded-reduction : (height : ℕ) (m : Literal Variable) → x .leaves ≡ leaf ∷ rest → ancestor height (leaf .branch) ≡ some m
-      → fits (leaf .literal) m ≡ true → Solves σ (afterReduction x leaf rest m .pairs) → Grounded σ t (afterReduction x leaf rest m) z ss
-      → Grounded σ t x z (Reduction height ∷ ss)
+      → fits (leaf .literal) m ≡ true → Solves σ (afterReduction x leaf rest m .pairs) → Grounded σ rules t (afterReduction x leaf rest m) z ss
+      → Grounded σ rules t x z (Reduction height ∷ ss)
   unfolding Solves closing size steps asked leafUnder
   grounded-reduction h m l a f k g =
       record {
@@ -63,32 +64,32 @@ module _ (σ : Substitution) {t : Table} {x z : Tableau} {ss : List Step} {leaf 
         questions = g .questions;
       }
 
-  grounded-extension : (i j : ℕ) (clause : Clause) (m : Literal Variable) → x .leaves ≡ leaf ∷ rest → getElem? (allClauses t) i ≡ some clause
-      → getElem? (copyOf (suc (x .extensions)) clause) j ≡ some m → fits (leaf .literal) m ≡ true
-      → Solves σ (afterEntry t x leaf rest i j clause m .pairs) → Grounded σ t (afterEntry t x leaf rest i j clause m) z ss
-      → Grounded σ t x z (Extension i j ∷ ss)
-  unfolding Solves closing size steps asked leafUnder questionsWith
-  grounded-extension i j clause m l c a f k g =
+  grounded-extension : (i j : ℕ) (clause : Clause) (m : Literal Variable) → x .leaves ≡ leaf ∷ rest → rules .extends (leaf .literal .negative) ≡ true
+      → getElem? (allClauses t) i ≡ some clause → getElem? (copyOf (suc (x .extensions)) clause) j ≡ some m → fits (leaf .literal) m ≡ true
+      → Solves σ (afterEntry t x leaf rest i j clause m .pairs) → Grounded σ rules t (afterEntry t x leaf rest i j clause m) z ss
+      → Grounded σ rules t x z (Extension i j ∷ ss)
+  unfolding Solves closing size steps asked leafUnder literalUnder questionsWith
+  grounded-extension i j clause m l u c a f k g =
       let copy : ℕ = suc (x .extensions) in
       let opposed = fit-opposite σ (leaf .literal) m f (k .0) in
       let below = sym (hung-under σ (leaf .literal ∷ leaf .branch) rest copy j clause) ∙ g .as-leaves in
       record {
         leaves = leafUnder σ leaf ∷ map (leafUnder σ) rest;
         as-leaves = rw l;
-        tree = extension i j (ofCopy σ copy) c (copy-some σ copy j clause a ∙ ap some opposed) below (g .tree);
+        tree = extension i j (ofCopy σ copy) u c (copy-some σ copy j clause a ∙ ap some opposed) below (g .tree);
         same-steps = ap {B = List Step} (λ r. Extension i j ∷ r) (g .same-steps);
         extensions = add-suc (x .extensions) (size (g .tree)) ∙ sym (suc-add (x .extensions) (size (g .tree))) ∙ g .extensions;
         questions = g .questions ∙ one-more (eqb i (length (t .clauses))) (ofCopy σ) (x .questions) (suc (x .extensions)) (asked (g .tree));
       }
 
-module _ (σ : Substitution) {t : Table} {bound : ℕ} where
-  grounded-step : {x y z : Tableau} {s : Step} {ss : List Step} → Does t bound x s y → Solves σ (y .pairs) → Grounded σ t y z ss
-      → Grounded σ t x z (s ∷ ss)
+module _ (σ : Substitution) {S : Setting} where
+  grounded-step : {x y z : Tableau} {s : Step} {ss : List Step} → Does S x s y → Solves σ (y .pairs) → Grounded σ (S .profile) (S .table) y z ss
+      → Grounded σ (S .profile) (S .table) x z (s ∷ ss)
   grounded-step (reduces {m = m} {height = h} l a f e) k g = grounded-reduction σ h m l a f (rw (← e) at k) (rw (← e) at g)
   grounded-step (extends {clause = clause} {m = m} {i = i} {j = j} l u c a f e) k g =
-      grounded-extension σ i j clause m l c a f (rw (← e) at k) (rw (← e) at g)
+      grounded-extension σ i j clause m l (u .0) c a f (rw (← e) at k) (rw (← e) at g)
 
-  pub grounded : {x z : Tableau} {ss : List Step} → Made t bound x ss z → z .leaves ≡ [] → Solves σ (z .pairs) → Grounded σ t x z ss
+  pub grounded : {x z : Tableau} {ss : List Step} → Made S x ss z → z .leaves ≡ [] → Solves σ (z .pairs) → Grounded σ (S .profile) (S .table) x z ss
   unfolding size steps asked
   grounded {x} as-it-stands e k =
       record {
@@ -101,7 +102,7 @@ module _ (σ : Substitution) {t : Table} {bound : ℕ} where
       }
   grounded (by-step {s = s} d m) e k = grounded-step (does s d) (solved-earlier σ m k) (grounded m e k)
 
-pub within-bound : {t : Table} {bound : ℕ} {x z : Tableau} {ss : List Step} → Made t bound x ss z → x .extensions ≤ bound → z .extensions ≤ bound
+pub within-bound : {S : Setting} {x z : Tableau} {ss : List Step} → Made S x ss z → x .extensions ≤ S .bound → z .extensions ≤ S .bound
 within-bound as-it-stands h = h
 within-bound (by-step {s = s} d m) h = within-bound m (does-within (does s d) h)
 
@@ -109,20 +110,20 @@ pub start-under : (σ : Substitution) (t : Table) → map (leafUnder σ) (start 
 unfolding start
 start-under σ t = hang-under σ [] (copyOf 0 (t .question)) ∙ ap (hang []) (copy-under σ 0 (t .question))
 
-module _ {t : Table} {bound : ℕ} {ss : List Step} (c : Closed t bound ss) (σ : Substitution) (solves : Solves σ (c .tableau .pairs)) where
-  pub whole : Grounded σ t (start t) (c .tableau) ss
+module _ {S : Setting} {ss : List Step} (c : Closed S ss) (σ : Substitution) (solves : Solves σ (c .tableau .pairs)) where
+  pub whole : Grounded σ (S .profile) (S .table) (start (S .table)) (c .tableau) ss
   whole = grounded σ (c .made) (c .no-leaf-open) solves
 
-  unfoldable pub treeUnder : InstanceTree t
+  unfoldable pub treeUnder : InstanceTree (S .profile) (S .table)
   treeUnder =
       record {
         root = ofCopy σ 0;
         leaves = whole .leaves;
-        hung = sym (start-under σ t) ∙ whole .as-leaves;
+        hung = sym (start-under σ (S .table)) ∙ whole .as-leaves;
         tree = whole .tree;
       }
 
-  pub tree-within : size (treeUnder .tree) ≤ bound
+  pub tree-within : size (treeUnder .tree) ≤ S .bound
   unfolding treeUnder start
   tree-within = let h = within-bound (c .made) zero-le in let e = whole .extensions in omega arith
 
@@ -152,11 +153,11 @@ unfolding Follows spread ofCopy
 spread-follows all [] copy e = tt
 spread-follows all (θ ∷ θs) copy e = let h = at-drop all copy e in (h .0, spread-follows all θs (suc copy) (h .1))
 
-module _ (σ : Substitution) (t : Table) (bound : ℕ) where
+module _ (σ : Substitution) (S : Setting) where
   -- a step from x that leaves these leaves under the substitution, and this number of extensions
   record Next (x : Tableau) (s : Step) (ls : List Leaf) (n : ℕ) : Type 0 where
     tableau : Tableau
-    does : Does t bound x s tableau
+    does : Does S x s tableau
     as-leaves : map (leafUnder σ) (tableau .leaves) ≡ ls
     solves : Solves σ (tableau .pairs)
     extensions : tableau .extensions ≡ n
@@ -164,7 +165,7 @@ module _ (σ : Substitution) (t : Table) (bound : ℕ) where
   -- steps from x to a tableau with no leaf open that the substitution solves
   pub record Lifted (x : Tableau) (ss : List Step) : Type 0 where
     pub tableau : Tableau
-    pub made : Made t bound x ss tableau
+    pub made : Made S x ss tableau
     pub no-leaf-open : tableau .leaves ≡ []
     pub solves : Solves σ (tableau .pairs)
 
@@ -183,7 +184,7 @@ module _ (σ : Substitution) (t : Table) (bound : ℕ) where
       }
 
   next-extension : (x : Tableau) (leaf : Leaf) (rest : List Leaf) (i j : ℕ) (clause : Clause) → x .leaves ≡ leaf ∷ rest
-      → x .extensions < bound → getElem? (allClauses t) i ≡ some clause
+      → MayExtend S x leaf → getElem? (allClauses (S .table)) i ≡ some clause
       → getElem? (instance (ofCopy σ (suc (x .extensions))) clause) j ≡ some (opposite (leafUnder σ leaf .literal)) → Solves σ (x .pairs)
       → Next x (Extension i j)
       (hang (leafUnder σ leaf .literal ∷ leafUnder σ leaf .branch) (others j (instance (ofCopy σ (suc (x .extensions))) clause))
@@ -193,7 +194,7 @@ module _ (σ : Substitution) (t : Table) (bound : ℕ) where
       let copy : ℕ = suc (x .extensions) in
       let b = map-some-back (literalUnder σ) (copyOf copy clause) j (rw (← copy-under σ copy clause) at a) in
       record {
-        tableau = afterEntry t x leaf rest i j clause (b .0);
+        tableau = afterEntry (S .table) x leaf rest i j clause (b .0);
         does = extends l u c (b .1) (opposite-fits σ (leaf .literal) (b .0) (b .2)) refl;
         as-leaves = hung-under σ (leaf .literal ∷ leaf .branch) rest copy j clause;
         solves = (opposite-atoms σ (leaf .literal) (b .0) (b .2), s);
@@ -209,8 +210,8 @@ module _ (σ : Substitution) (t : Table) (bound : ℕ) where
         solves = r .solves;
       }
 
-  pub lift : {ls : List Leaf} (tree : Tree t ls) (x : Tableau) → map (leafUnder σ) (x .leaves) ≡ ls
-      → Follows σ (suc (x .extensions)) (instances tree) → x .extensions + size tree ≤ bound → Solves σ (x .pairs) → Lifted x (steps tree)
+  pub lift : {ls : List Leaf} (tree : Tree (S .profile) (S .table) ls) (x : Tableau) → map (leafUnder σ) (x .leaves) ≡ ls
+      → Follows σ (suc (x .extensions)) (instances tree) → x .extensions + size tree ≤ S .bound → Solves σ (x .pairs) → Lifted x (steps tree)
   unfolding instances size steps Follows
   lift bare x l f b s =
       record {
@@ -223,13 +224,13 @@ module _ (σ : Substitution) (t : Table) (bound : ℕ) where
       let c = map-cons-back (leafUnder σ) (x .leaves) l in
       let k = next-reduction x (c .0) (c .1) h (c .2) (rw (← (c .3)) at a) s in
       lift-next k (lift below (k .tableau) (k .as-leaves ∙ c .4) (rw (k .extensions) f) (rw (k .extensions) b) (k .solves))
-  lift (extension {leaf = leaf} {clause = clause} i j θ e a hung below) x l f b s =
+  lift (extension {leaf = leaf} {clause = clause} i j θ u e a hung below) x l f b s =
       let c = map-cons-back (leafUnder σ) (x .leaves) l in
-      let k = next-extension x (c .0) (c .1) i j clause (c .2) (omega arith) e (rw (f .0, c .3) a) s in
+      let k = next-extension x (c .0) (c .1) i j clause (c .2) (rw (← sign-under σ (c .0), c .3) u, omega arith) e (rw (f .0, c .3) a) s in
       lift-next k
       (lift below (k .tableau) (k .as-leaves ∙ rw (f .0, c .3, c .4) hung) (rw (k .extensions) (f .1)) (rw (k .extensions) (omega arith)) (k .solves))
 
-module _ {t : Table} (x : InstanceTree t) where
+module _ {rules : Profile} {t : Table} (x : InstanceTree rules t) where
   abbrev all-copies : Substitution
   all-copies = spread (x .root ∷ instances (x .tree))
 
@@ -238,14 +239,14 @@ module _ {t : Table} (x : InstanceTree t) where
   root-copy = refl
 
   -- an instance tree within the bound is a closed tableau of the same steps
-  pub lifted : {bound : ℕ} → size (x .tree) ≤ bound → Closed t bound (steps (x .tree))
+  pub lifted : {bound : ℕ} → size (x .tree) ≤ bound → Closed (over rules t bound) (steps (x .tree))
   unfolding start Solves
   lifted {bound} h =
       let σ : Substitution = all-copies in
       let l : map (leafUnder σ) (start t .leaves) ≡ x .leaves =
       start-under σ t ∙ ap (λ (θ : Instance). hang [] (instance θ (t .question))) root-copy ∙ x .hung in
       let follows = spread-follows (x .root ∷ instances (x .tree)) (instances (x .tree)) 1 refl in
-      let r = lift σ t bound (x .tree) (start t) l follows (omega arith) tt in
+      let r = lift σ (over rules t bound) (x .tree) (start t) l follows (omega arith) tt in
       record {
         tableau = r .tableau;
         made = r .made;
@@ -254,9 +255,9 @@ module _ {t : Table} (x : InstanceTree t) where
       }
 
 -- a closed tableau within the bound exists exactly where an instance tree within the bound does
-pub closed-iff-tree : (t : Table) (bound : ℕ)
-    → ((ss : List Step) × Closed t bound ss) ↔ ((x : InstanceTree t) × (size (x .tree) ≤ bound))
-closed-iff-tree t bound = (
+pub closed-iff-tree : (S : Setting)
+    → ((ss : List Step) × Closed S ss) ↔ ((x : InstanceTree (S .profile) (S .table)) × (size (x .tree) ≤ S .bound))
+closed-iff-tree S = (
   λ c. let d = c .1 in let u = d .unifiable in (treeUnder d (u .by) (u .solves), tree-within d (u .by) (u .solves)),
   λ x. (steps (x .0 .tree), lifted (x .0) (x .1)),
 )

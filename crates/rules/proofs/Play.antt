@@ -2,13 +2,13 @@
 use mathlib.Core.List.{List, _∷_}
 use mathlib.Core.Option.{Option, none, some}
 use mathlib.Core.Path.{_≡_, refl, sym, ap}
-use Prim.Native.Nat.{ℕ}
 use Rattle.words.specs.declared.Step.{Step}
 use Rattle.table.specs.Syntax.{Table}
 use Rattle.rules.specs.Substitution.{Pair, Unifiable, MostGeneral}
-use Rattle.rules.specs.Unify.{solution, Unified, made, clash, circle, unify}
+use Rattle.rules.specs.Machinery.Unify.{solution, Unified, made, clash, circle, unify}
+use Rattle.rules.specs.Setting.{Setting}
 use Rattle.rules.specs.Tableau.{Tableau, start, stepped, closing}
-use Rattle.rules.specs.Play.{Play, begin, Performed, goes-on, not-possible, clashes, circular, boundBy, newest, performed, perform}
+use Rattle.rules.specs.Machinery.Play.{Play, begin, Performed, goes-on, not-possible, clashes, circular, boundBy, newest, performed, perform}
 use Rattle.rules.proofs.Unify.{Stands, stands-general, stands-unifiable, stands-none, stands-more, clash-not-unifiable, circle-not-unifiable}
 use Rattle.rules.proofs.Steps.{Does, reduces, extends, does}
 
@@ -27,23 +27,23 @@ unfolding begin start
 sound-begin t = stands-none
 
 -- a step adds one pair
-one-more : {t : Table} {bound : ℕ} {x y : Tableau} {s : Step} → Does t bound x s y → (p : Pair) × (y .pairs ≡ p ∷ x .pairs)
+one-more : {S : Setting} {x y : Tableau} {s : Step} → Does S x s y → (p : Pair) × (y .pairs ≡ p ∷ x .pairs)
 one-more (reduces {leaf = leaf} {m = m} l a f e) = (closing (leaf .literal) m, ap (λ (z : Tableau). z .pairs) (sym e))
 one-more (extends {leaf = leaf} {m = m} l u k a f e) = (closing (leaf .literal) m, ap (λ (z : Tableau). z .pairs) (sym e))
 
 pub stepped-one-more :
-    (t : Table) (bound : ℕ) (x : Tableau) (s : Step) {y : Tableau} → stepped t bound x s ≡ some y → (p : Pair) × (y .pairs ≡ p ∷ x .pairs)
-stepped-one-more t bound x s e = one-more (does s e)
+    (S : Setting) (x : Tableau) (s : Step) {y : Tableau} → stepped S x s ≡ some y → (p : Pair) × (y .pairs ≡ p ∷ x .pairs)
+stepped-one-more S x s e = one-more (does s e)
 
-module _ (t : Table) (bound : ℕ) (p : Play) (s : Step) where
+module _ (S : Setting) (p : Play) (s : Step) where
   -- what is known when a step was performed, or was not
   abbrev pub Told : Performed → Type 0
-  Told (goes-on q) = (stepped t bound (p .tableau) s ≡ some (q .tableau)) × Sound q
-  Told not-possible = stepped t bound (p .tableau) s ≡ none
-  Told clashes = (y : Tableau) × (stepped t bound (p .tableau) s ≡ some y) × (¬ Unifiable (y .pairs))
-  Told circular = (y : Tableau) × (stepped t bound (p .tableau) s ≡ some y) × (¬ Unifiable (y .pairs))
+  Told (goes-on q) = (stepped S (p .tableau) s ≡ some (q .tableau)) × Sound q
+  Told not-possible = stepped S (p .tableau) s ≡ none
+  Told clashes = (y : Tableau) × (stepped S (p .tableau) s ≡ some y) × (¬ Unifiable (y .pairs))
+  Told circular = (y : Tableau) × (stepped S (p .tableau) s ≡ some y) × (¬ Unifiable (y .pairs))
 
-  module _ (h : Sound p) (y : Tableau) (e : stepped t bound (p .tableau) s ≡ some y) (a : Pair) (f : y .pairs ≡ a ∷ p .tableau .pairs) where
+  module _ (h : Sound p) (y : Tableau) (e : stepped S (p .tableau) s ≡ some y) (a : Pair) (f : y .pairs ≡ a ∷ p .tableau .pairs) where
     told-bound : (r : Unified) → unify (p .bindings) (a .left) (a .right) ≡ r → Told (boundBy y r)
     unfolding boundBy
     told-bound (made bs) u = (e, rw f (stands-more (p .bindings) (p .tableau .pairs) h a u))
@@ -54,13 +54,13 @@ module _ (t : Table) (bound : ℕ) (p : Play) (s : Step) where
     unfolding newest
     told-newest ps k = rw k (told-bound (unify (p .bindings) (a .left) (a .right)) refl)
 
-  told-performed : Sound p → (o : Option Tableau) → stepped t bound (p .tableau) s ≡ o → Told (performed (p .bindings) o)
+  told-performed : Sound p → (o : Option Tableau) → stepped S (p .tableau) s ≡ o → Told (performed (p .bindings) o)
   unfolding performed
   told-performed h none e = e
   told-performed h (some y) e =
-      let f = stepped-one-more t bound (p .tableau) s e in
+      let f = stepped-one-more S (p .tableau) s e in
       told-newest h y e (f .0) (f .1) (y .pairs) (f .1)
 
-  pub told : Sound p → Told (perform t bound p s)
+  pub told : Sound p → Told (perform S p s)
   unfolding perform
-  told h = told-performed h (stepped t bound (p .tableau) s) refl
+  told h = told-performed h (stepped S (p .tableau) s) refl

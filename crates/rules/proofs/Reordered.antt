@@ -1,5 +1,6 @@
 -- Whether a closed tableau exists does not depend on the order of clauses and literals.
 use lib.ListN.{length, getElem?}
+use mathlib.Core.Bool.{true}
 use mathlib.Core.List.{List, [], _∷_, _++_, map}
 use mathlib.Core.Logic.{_⊎_, inl, inr, _↔_}
 use mathlib.Core.Option.{some}
@@ -10,6 +11,7 @@ use Rattle.words.specs.declared.Step.{Step}
 use Rattle.table.specs.Syntax.{Literal, literalUnder, Clause, Table, allClauses}
 use Rattle.rules.specs.Reordered.{Reordered, empty, next, swapped, in-turn, SameClause, SameTable}
 use Rattle.rules.specs.Substitution.{Variable}
+use Rattle.rules.specs.Setting.{Profile, over}
 use Rattle.rules.specs.Tableau.{Leaf, hang, others, Closed}
 use Rattle.rules.proofs.Instances.{Instance, instance, opposite}
 use Rattle.rules.proofs.Lifting.{closed-iff-tree}
@@ -58,19 +60,19 @@ elsewhere (in-turn r q) n e =
     let l = elsewhere q (k .place) (k .there) in
     record { place = l .place; there = l .there; rest = in-turn (k .rest) (l .rest) }
 
-module _ {t : Table} where
-  both : {ls ms : List Leaf} {m n : ℕ} → Counted t ls m → Counted t ms n → Counted t (ls ++ ms) (m + n)
+module _ {rules : Profile} {t : Table} where
+  both : {ls ms : List Leaf} {m n : ℕ} → Counted rules t ls m → Counted rules t ms n → Counted rules t (ls ++ ms) (m + n)
   both a b =
       let r = join (a .tree) (b .tree) in
       record { tree = r .tree; extensions = r .extensions ∙ rw (a .extensions, b .extensions) }
 
   -- the order of leaves does not matter
-  pub permuted : {ls ms : List Leaf} → Reordered _≡_ ls ms → {n : ℕ} → Counted t ls n → Counted t ms n
+  pub permuted : {ls ms : List Leaf} → Reordered _≡_ ls ms → {n : ℕ} → Counted rules t ls n → Counted rules t ms n
   permuted empty s = s
   permuted (next {x = x} {y = y} {xs = xs} e r) s =
       let p = split (s .tree) (x ∷ []) xs refl in
       let k = p .extensions ∙ s .extensions in
-      let first = subst (λ (l : Leaf). Counted t (l ∷ []) (size (p .left))) e (counted (p .left)) in
+      let first = subst (λ (l : Leaf). Counted rules t (l ∷ []) (size (p .left))) e (counted (p .left)) in
       rw (← k) (both first (permuted r (counted (p .right))))
   permuted (swapped {x = x} {y = y} {xs = xs}) {n} s =
       let p = split (s .tree) (x ∷ y ∷ []) xs refl in
@@ -107,42 +109,43 @@ found (in-turn r q) i e =
 pub record Covered (t u : Table) : Type 0 where
   pub finds : (i : ℕ) (c : Clause) → getElem? (allClauses t) i ≡ some c → Found (allClauses u) c
 
-module _ {t u : Table} (covered : Covered t u) where
+module _ {rules : Profile} {t u : Table} (covered : Covered t u) where
   covered-extension : (leaf : Leaf) (rest below : List Leaf) (clause : Clause) (i j : ℕ) (θ : Instance) (n : ℕ)
-      → getElem? (allClauses t) i ≡ some clause → getElem? (instance θ clause) j ≡ some (opposite (leaf .literal))
-      → hang (leaf .literal ∷ leaf .branch) (others j (instance θ clause)) ++ rest ≡ below → Counted u below n → Counted u (leaf ∷ rest) (suc n)
+      → rules .extends (leaf .literal .negative) ≡ true → getElem? (allClauses t) i ≡ some clause
+      → getElem? (instance θ clause) j ≡ some (opposite (leaf .literal))
+      → hang (leaf .literal ∷ leaf .branch) (others j (instance θ clause)) ++ rest ≡ below → Counted rules u below n → Counted rules u (leaf ∷ rest) (suc n)
   unfolding size instance
-  covered-extension leaf rest below clause i j θ n c a hung s =
+  covered-extension leaf rest below clause i j θ n u c a hung s =
       let f = covered .finds i clause c in
       let k = elsewhere (reordered-map (literalUnder θ) (f .literals)) j a in
       let moved = reordered-append rest (reordered-hang (leaf .literal ∷ leaf .branch) (k .rest)) in
       let r = permuted moved (rw (← hung) at s) in
-      record { tree = extension (f .place) (k .place) θ (f .there) (k .there) refl (r .tree); extensions = ap suc (r .extensions) }
+      record { tree = extension (f .place) (k .place) θ u (f .there) (k .there) refl (r .tree); extensions = ap suc (r .extensions) }
 
-  pub covered-tree : {ls : List Leaf} (tree : Tree t ls) → Counted u ls (size tree)
+  pub covered-tree : {ls : List Leaf} (tree : Tree rules t ls) → Counted rules u ls (size tree)
   unfolding size
   covered-tree bare = record { tree = bare; extensions = refl }
   covered-tree (reduction h a below) =
       let r = covered-tree below in
       record { tree = reduction h a (r .tree); extensions = r .extensions }
-  covered-tree (extension {leaf = leaf} {rest = rest} {below = ls} {clause = clause} i j θ c a hung below) =
-      covered-extension leaf rest ls clause i j θ (size below) c a hung (covered-tree below)
+  covered-tree (extension {leaf = leaf} {rest = rest} {below = ls} {clause = clause} i j θ u c a hung below) =
+      covered-extension leaf rest ls clause i j θ (size below) u c a hung (covered-tree below)
 
   -- where every clause of one table has its place in the other, and the questions are the same, a tree of one is a tree of the other
-  pub covered-whole : Reordered _≡_ (t .question .literals) (u .question .literals) → (x : InstanceTree t)
-      → (y : InstanceTree u) × (size (y .tree) ≡ size (x .tree))
+  pub covered-whole : Reordered _≡_ (t .question .literals) (u .question .literals) → (x : InstanceTree rules t)
+      → (y : InstanceTree rules u) × (size (y .tree) ≡ size (x .tree))
   unfolding instance
   covered-whole q x =
       let leaves = reordered-hang [] (reordered-map (literalUnder (x .root)) q) in
-      let s = permuted leaves (subst (λ (ls : List Leaf). Counted u ls (size (x .tree))) (sym (x .hung)) (covered-tree (x .tree))) in
+      let s = permuted leaves (subst (λ (ls : List Leaf). Counted rules u ls (size (x .tree))) (sym (x .hung)) (covered-tree (x .tree))) in
       (record { root = x .root; leaves = hang [] (instance (x .root) (u .question)); hung = refl; tree = s .tree }, s .extensions)
 
   pub covered-closed : Reordered _≡_ (t .question .literals) (u .question .literals) → (bound : ℕ)
-      → (ss : List Step) × Closed t bound ss → (ss : List Step) × Closed u bound ss
+      → (ss : List Step) × Closed (over rules t bound) ss → (ss : List Step) × Closed (over rules u bound) ss
   covered-closed q bound c =
-      let x = closed-iff-tree t bound .0 c in
+      let x = closed-iff-tree (over rules t bound) .0 c in
       let y = covered-whole q (x .0) in
-      closed-iff-tree u bound .1 (y .0, rw (y .1) (x .1))
+      closed-iff-tree (over rules u bound) .1 (y .0, rw (y .1) (x .1))
 
 pub same-covered : {t u : Table} → SameTable t u → Covered t u
 unfolding allClauses
@@ -180,10 +183,10 @@ pub same-back : {t u : Table} → SameTable t u → SameTable u t
 same-back {t} {u} s =
     record { clauses = backwards same-clause-back (s .clauses); question = same-clause-back (t .question) (u .question) (s .question) }
 
-same-closed : {t u : Table} → SameTable t u → (bound : ℕ) → (ss : List Step) × Closed t bound ss → (ss : List Step) × Closed u bound ss
-same-closed same = covered-closed (same-covered same) (same .question .literals)
+same-closed : (rules : Profile) {t u : Table} → SameTable t u → (bound : ℕ) → (ss : List Step) × Closed (over rules t bound) ss → (ss : List Step) × Closed (over rules u bound) ss
+same-closed rules same = covered-closed (same-covered same) (same .question .literals)
 
 -- the order of clauses and of literals does not matter to whether a closed tableau exists
-pub reordered-closed : {t u : Table} → SameTable t u → (bound : ℕ)
-    → ((ss : List Step) × Closed t bound ss) ↔ ((ss : List Step) × Closed u bound ss)
-reordered-closed same bound = (same-closed same bound, same-closed (same-back same) bound)
+pub reordered-closed : (rules : Profile) {t u : Table} → SameTable t u → (bound : ℕ)
+    → ((ss : List Step) × Closed (over rules t bound) ss) ↔ ((ss : List Step) × Closed (over rules u bound) ss)
+reordered-closed rules same bound = (same-closed rules same bound, same-closed rules (same-back same) bound)

@@ -13,10 +13,12 @@ use Rattle.words.specs.declared.Step.{Step}
 use Rattle.table.specs.Syntax.{Term, var, app, Terms, nil, _then_, under, unders, Literal, literalUnder, Clause, Table, allClauses}
 use Rattle.table.specs.Encode.{literalsWords}
 use Rattle.rules.specs.Substitution.{Variable, Substitution, Solves}
+use Rattle.rules.specs.Setting.{Profile, Setting}
 use Rattle.rules.specs.Tableau.{copyOf, Leaf, Tableau, hang, ancestor, others, Closed}
-use Rattle.rules.specs.Answer.{positive, disjunct, disjuncts, joined, numbered, numberedDisjuncts, answerWords}
+use Rattle.rules.specs.Answer.{positive, disjunct, disjuncts, joined, numbered, answerWords}
 use Rattle.rules.specs.Truth.{Interpretation, Assignment, AllNegative, value, values, atomTrue, literalTrue, someTrue, allTrue}
 use Rattle.rules.specs.Truth.{someAllTrue, Holds, AllHold, AnswerHolds}
+use Rattle.rules.proofs.Answer.{numberedDisjuncts}
 use Rattle.rules.proofs.Instances.{Instance, instance, opposite, ofCopy, copy-under}
 use Rattle.rules.proofs.Lifting.{treeUnder, tree-questions}
 use Rattle.rules.proofs.Lists.{All, all-left, all-right, all-at, last-or-before, none-some}
@@ -158,7 +160,7 @@ module _ (I : Interpretation) (t : Table) (a : Assignment I Variable) (hold : Al
           let other : eqb i (length (t .clauses)) ≡ false = ne-eqb i (length (t .clauses)) (λ e. omega arith) in
           (instance-true I clause θ a (hold-at I (t .clauses) i (c .1) hold), rw other at h)
 
-  tree-refutes : {ls : List Leaf} (tree : Tree t ls) → All (Denied I t (a .element)) (asked tree) → All (Refuted I (a .element)) ls
+  tree-refutes : {rules : Profile} {ls : List Leaf} (tree : Tree rules t ls) → All (Denied I t (a .element)) (asked tree) → All (Refuted I (a .element)) ls
   unfolding asked All
   tree-refutes bare d = tt
   tree-refutes (reduction {leaf = leaf} h e below) d = (
@@ -166,7 +168,7 @@ module _ (I : Interpretation) (t : Table) (a : Assignment I Variable) (hold : Al
         (sym (opposite-not I (a .element) (leaf .literal)) ∙ ancestor-true I (a .element) h (leaf .branch) e branch),
     tree-refutes below d,
   )
-  tree-refutes (extension {leaf = leaf} {rest = rest} {clause = clause} i j θ c e eq below) d =
+  tree-refutes (extension {leaf = leaf} {rest = rest} {clause = clause} i j θ u c e eq below) d =
       let k = hung-true i θ (asked below) c d in
       let ls : List (Literal Variable) = instance θ clause in
       let hung : List Leaf = hang (leaf .literal ∷ leaf .branch) (others j ls) in
@@ -176,7 +178,7 @@ module _ (I : Interpretation) (t : Table) (a : Assignment I Variable) (hold : Al
       )
 
   -- a tree whose every question's instance, the root too, has a true literal is not closed
-  tree-false : (x : InstanceTree t) → Denied I t (a .element) (x .root) → All (Denied I t (a .element)) (asked (x .tree)) → ⊥
+  tree-false : {rules : Profile} (x : InstanceTree rules t) → Denied I t (a .element) (x .root) → All (Denied I t (a .element)) (asked (x .tree)) → ⊥
   unfolding All
   tree-false x r d =
       let ls : List (Literal Variable) = instance (x .root) (t .question) in
@@ -230,18 +232,19 @@ module _ (I : Interpretation) (t : Table) (a : Assignment I Variable) (hold : Al
       neither true q e = absurd (true≢false e)
       neither false q e = (refl, e)
 
-  some-all-true : (x : InstanceTree t) (b : Bool)
+  some-all-true : {rules : Profile} (x : InstanceTree rules t) (b : Bool)
       → someAllTrue I (a .element) (map (disjunctOf (t .question)) (x .root ∷ asked (x .tree))) ≡ b → b ≡ true
   unfolding All
   some-all-true x true e = refl
   some-all-true x false e = let d = none-all-true (x .root ∷ asked (x .tree)) e in absurd (tree-false I t a hold x (d .0) (d .1))
 
 -- the answer of a closed tableau holds where all clauses but the question hold
-pub answer-holds : (I : Interpretation) (t : Table) {bound : ℕ} {steps : List Step} (c : Closed t bound steps) (σ : Substitution)
-    → Solves σ (c .tableau .pairs) → AllNegative (t .question .literals) → AllHold I (t .clauses)
-    → AnswerHolds I (disjuncts σ t (c .tableau))
+pub answer-holds : (I : Interpretation) (S : Setting) {steps : List Step} (c : Closed S steps) (σ : Substitution)
+    → Solves σ (c .tableau .pairs) → AllNegative (S .table .question .literals) → AllHold I (S .table .clauses)
+    → AnswerHolds I (disjuncts σ (S .table) (c .tableau))
 unfolding AnswerHolds disjuncts
-answer-holds I t c σ solves negative hold = λ a.
+answer-holds I S c σ solves negative hold = λ a.
+    let t : Table = S .table in
     let x = treeUnder c σ solves in
     let e : map (disjunct σ (t .question)) (c .tableau .questions) ≡ map (disjunctOf (t .question)) (x .root ∷ asked (x .tree)) =
     disjuncts-instances σ (t .question) (c .tableau .questions) ∙ ap (map (disjunctOf (t .question))) (tree-questions c σ solves) in
@@ -253,10 +256,14 @@ unfolding joined flatten
 flat-joined f [] = refl
 flat-joined f (d ∷ ds) = map-append f d (joined ds) ∙ ap {B = List (Literal ℕ)} (λ r. map f d ++ r) (flat-joined f ds)
 
+pub flat-numbered : (ds : List (List (Literal Variable))) → numbered (joined ds) ≡ flatten (numberedDisjuncts ds)
+unfolding numbered numberedDisjuncts
+flat-numbered ds = flat-joined _ ds
+
 pub answer-words : (σ : Substitution) (t : Table) (x : Tableau)
     → answerWords σ t x ≡ literalsWords (flatten (numberedDisjuncts (disjuncts σ t x)))
-unfolding answerWords numbered numberedDisjuncts
-answer-words σ t x = ap literalsWords (flat-joined _ (disjuncts σ t x))
+unfolding answerWords
+answer-words σ t x = ap literalsWords (flat-numbered (disjuncts σ t x))
 
 pub numbered-holds : (I : Interpretation) (ds : List (List (Literal Variable))) → AnswerHolds I ds → AnswerHolds I (numberedDisjuncts ds)
 unfolding numberedDisjuncts

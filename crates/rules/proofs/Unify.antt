@@ -16,7 +16,7 @@ use mathlib.Core.Logic.{_↔_}
 use mathlib.Core.Path.{_≡_, refl}
 use Rattle.table.specs.Syntax.{Term, Terms, nil, _then_, under, unders}
 use Rattle.rules.specs.Substitution.{Variable, Substitution, Pair, Solves, Unifiable, MostGeneral}
-use Rattle.rules.specs.Unify.{Bindings, solution, Unified, made, clash, circle, unify, unifies, unifyPairs}
+use Rattle.rules.specs.Machinery.Unify.{Bindings, solution, Unified, made, clash, circle, unify, unifies, unifyPairs}
 use Rattle.rules.proofs.Unify.Solution.{Satisfies, Good, general, solution-satisfies}
 use Rattle.rules.proofs.Substitution.{Over}
 use Rattle.rules.proofs.Unify.Domain.{over-parts}

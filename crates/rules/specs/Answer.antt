@@ -1,12 +1,15 @@
 -- The answer (document 01, "Tableau rules"): one disjunct for each copy of the question, the start first, then in step order.
+use lib.ListN.{length, take}
 use mathlib.Core.Bool.{Bool, true, false, cond}
-use mathlib.Core.List.{List, [], _∷_, _++_, map}
-use Prim.Native.Nat.{ℕ, zero, suc}
-use Rattle.table.specs.Syntax.{Term, var, app, Terms, nil, _then_, under, Literal, literalUnder, Clause, Table}
+use mathlib.Core.List.{List, [], _∷_, _++_, map, flatten}
+use mathlib.Core.Path.{_≡_}
+use Prim.Native.Nat.{ℕ, zero, suc, pred, _^_}
+use Rattle.table.specs.Syntax.{Term, var, app, Terms, nil, _then_, Literal, literalUnder, Clause, Table}
 use Rattle.table.specs.Encode.{literalsWords}
-use Rattle.rules.specs.Substitution.{Variable, Substitution}
+use Rattle.table.specs.Decode.{literalsFrom}
+use Rattle.table.specs.Limits.{LiteralWithin, Each}
+use Rattle.rules.specs.Substitution.{Variable, sameVariable, Substitution}
 use Rattle.rules.specs.Tableau.{copyOf, Tableau}
-use Rattle.rules.specs.Unify.{sameVariable}
 
 unfoldable pub positive : Literal Variable → Literal Variable
 positive l = record { negative = false; predicate = l .predicate; arguments = l .arguments }
@@ -57,10 +60,30 @@ unfoldable pub joined : List (List (Literal Variable)) → List (Literal Variabl
 joined [] = []
 joined (d ∷ ds) = d ++ joined ds
 
--- the disjuncts of an answer, each with its variables so numbered
-unfoldable pub numberedDisjuncts : List (List (Literal Variable)) → List (List (Literal ℕ))
-numberedDisjuncts ds = map (map (literalUnder (λ x. var (placeOf x (firsts (occurringAll (joined ds))))))) ds
-
 -- the words of the answer under a substitution
 unfoldable pub answerWords : Substitution → Table → Tableau → List ℕ
 answerWords σ t x = literalsWords (numbered (joined (disjuncts σ t x)))
+
+-- A definite answer is one with a single copy of the question.
+abbrev pub Definite : Tableau → Type 0
+Definite x = length (x .questions) ≡ 1
+
+-- What an answer's words say. The literals that stand in them are taken in groups, each of as many literals as the question has, from the
+-- first literal on: a group begins where the one before it ends. The second number counts the literals still to pass of the present group.
+unfoldable pub groupsFrom : {A : Type 0} → ℕ → ℕ → List A → List (List A)
+groupsFrom more passing [] = []
+groupsFrom more (suc passing) (l ∷ ls) = groupsFrom more passing ls
+groupsFrom more zero (l ∷ ls) = (l ∷ take more ls) ∷ groupsFrom more more ls
+
+-- the disjuncts that are read in words: in a group, after its first literal, so many more
+unfoldable pub disjunctsIn : Clause → List ℕ → List (List (Literal ℕ))
+disjunctsIn question words = groupsFrom (pred (length (question .literals))) 0 (literalsFrom words)
+
+-- The words are those of so many disjuncts, each with as many literals as the question, all positive, one after another, and hold nothing
+-- else; each number is one that its field in a word holds. No two lists of disjuncts are read so in the same words: Witnesses.OneReading.
+pub record Reads (question : Clause) (words : List ℕ) (count : ℕ) (ds : List (List (Literal ℕ))) : Type 0 where
+  pub counted : length ds ≡ count
+  pub alike : Each (λ d. length d ≡ length (question .literals)) ds
+  pub positive : Each (λ l. l .negative ≡ false) (flatten ds)
+  pub whole : words ≡ literalsWords (flatten ds)
+  pub within : Each (LiteralWithin (2 ^ 10)) (flatten ds)

@@ -3,8 +3,8 @@ use mathlib.Core.List.{List, [], _∷_}
 use mathlib.Core.Path.{_≡_}
 use Prim.Native.Nat.{ℕ, zero, suc}
 use Rattle.words.specs.declared.Step.{Step}
-use Rattle.words.specs.declared.Step.the-variants.{Reduction, Extension, Malformed}
 use Rattle.table.specs.Syntax.{Clause, Table}
+use Rattle.rules.specs.Locality.{renumbered}
 
 -- the second list is the first with clauses added anywhere
 pub data Inserted : List Clause → List Clause → Type 0 where
@@ -22,10 +22,9 @@ along (added r) n = suc (along r n)
 -- clauses added anywhere before the question
 pub record Larger (t u : Table) : Type 0 where
   pub clauses : Inserted (t .clauses) (u .clauses)
+  -- the question stays as it is
   pub question : t .question ≡ u .question
 
 -- a step of the smaller table as a step of the larger
 unfoldable pub moved : {t u : Table} → Larger t u → Step → Step
-moved larger (Reduction height) = Reduction height
-moved larger (Extension clause literal) = Extension (along (larger .clauses) clause) literal
-moved larger Malformed = Malformed
+moved larger s = renumbered (along (larger .clauses)) s

@@ -1,12 +1,14 @@
 pub mod Substitution
-pub mod Unify
+pub mod Setting
 pub mod Tableau
 pub mod Order
 pub mod Answer
 pub mod Truth
 pub mod Verdict
 pub mod System
-pub mod Play
+pub mod Machinery
+pub mod Locality
 pub mod Growing
 pub mod Reordered
 pub mod Demands
+pub mod Witnesses

@@ -1,4 +1,6 @@
 -- Substitutions, and what it means that pairs of terms are made equal (document 01, "Tableau rules").
+use lib.Dec.{eqb}
+use mathlib.Core.Bool.{Bool, _&&_}
 use mathlib.Core.List.{List, [], _∷_}
 use mathlib.Core.Path.{_≡_}
 use Prim.Native.Nat.{ℕ}
@@ -8,6 +10,9 @@ use Rattle.table.specs.Syntax.{Term, under}
 pub record Variable : Type 0 where
   pub copy : ℕ
   pub number : ℕ
+
+abbrev pub sameVariable : Variable → Variable → Bool
+sameVariable x y = eqb (x .copy) (y .copy) && eqb (x .number) (y .number)
 
 -- a substitution gives each variable a finite term
 abbrev pub Substitution : Type 0

@@ -9,7 +9,8 @@ use Prim.Native.Nat.{ℕ, zero, suc}
 use Rattle.words.specs.declared.Step.{Step}
 use Rattle.words.specs.declared.Step.the-variants.{Reduction, Extension, Malformed}
 use Rattle.table.specs.Syntax.{Term, var, app, arity, Literal, literalUnder, Clause, Table, allClauses}
-use Rattle.rules.specs.Substitution.{Variable, Substitution, Pair, Solves, Unifiable}
+use Rattle.rules.specs.Substitution.{Variable, Pair, Unifiable}
+use Rattle.rules.specs.Setting.{Setting}
 
 -- a fresh copy of a clause: its variables are that copy's own
 unfoldable pub fresh : ℕ → ℕ → Term Variable
@@ -106,25 +107,29 @@ extended t x leaf rest i j (some clause) =
     let copy : List (Literal Variable) = copyOf (suc (x .extensions)) clause in
     entered x leaf rest (questionsWith t i (suc (x .extensions)) (x .questions)) j copy (getElem? copy j)
 
--- each step treats the leftmost open leaf; the bound limits extensions, and reductions are free
-unfoldable pub treated : Table → ℕ → Tableau → List Leaf → Step → Option Tableau
-treated t bound x [] s = none
-treated t bound x (leaf ∷ rest) (Reduction height) = reduced x leaf rest (ancestor height (leaf .branch))
-treated t bound x (leaf ∷ rest) (Extension i j) =
-    cond (ltb (x .extensions) bound) (extended t x leaf rest i j (getElem? (allClauses t) i)) none
-treated t bound x (leaf ∷ rest) Malformed = none
+-- a leaf may be extended if the profile lets it and not all of the bound's extensions are used
+abbrev pub mayExtend : Setting → ℕ → Leaf → Bool
+mayExtend S used leaf = S .profile .extends (leaf .literal .negative) && ltb used (S .bound)
 
-unfoldable pub stepped : Table → ℕ → Tableau → Step → Option Tableau
-stepped t bound x s = treated t bound x (x .leaves) s
+-- each step treats the leftmost open leaf; the bound limits extensions, and reductions are free
+unfoldable pub treated : Setting → Tableau → List Leaf → Step → Option Tableau
+treated S x [] s = none
+treated S x (leaf ∷ rest) (Reduction height) = reduced x leaf rest (ancestor height (leaf .branch))
+treated S x (leaf ∷ rest) (Extension i j) =
+    cond (mayExtend S (x .extensions) leaf) (extended (S .table) x leaf rest i j (getElem? (allClauses (S .table)) i)) none
+treated S x (leaf ∷ rest) Malformed = none
+
+unfoldable pub stepped : Setting → Tableau → Step → Option Tableau
+stepped S x s = treated S x (x .leaves) s
 
 -- the tableau that a list of steps makes
-pub data Made (t : Table) (bound : ℕ) : Tableau → List Step → Tableau → Type 0 where
-  as-it-stands : {x : Tableau} → Made t bound x [] x
-  by-step : {x y z : Tableau} {s : Step} {ss : List Step} → stepped t bound x s ≡ some y → Made t bound y ss z → Made t bound x (s ∷ ss) z
+pub data Made (S : Setting) : Tableau → List Step → Tableau → Type 0 where
+  as-it-stands : {x : Tableau} → Made S x [] x
+  by-step : {x y z : Tableau} {s : Step} {ss : List Step} → stepped S x s ≡ some y → Made S y ss z → Made S x (s ∷ ss) z
 
 -- closed within the bound: no leaf is open and one substitution makes all the closed pairs' atoms equal
-pub record Closed (t : Table) (bound : ℕ) (steps : List Step) : Type 0 where
+pub record Closed (S : Setting) (steps : List Step) : Type 0 where
   pub tableau : Tableau
-  pub made : Made t bound (start t) steps tableau
+  pub made : Made S (start (S .table)) steps tableau
   pub no-leaf-open : tableau .leaves ≡ []
   pub unifiable : Unifiable (tableau .pairs)

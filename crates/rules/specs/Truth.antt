@@ -3,7 +3,8 @@ use mathlib.Core.Bool.{Bool, true, false, not, _&&_, _||_, cond}
 use mathlib.Core.List.{List, [], _∷_}
 use mathlib.Core.Path.{_≡_}
 use Prim.Native.Nat.{ℕ, _<_}
-use Rattle.table.specs.Syntax.{Term, var, app, Terms, nil, _then_, Literal, Clause, Table}
+use Rattle.table.specs.Syntax.{Term, var, app, Terms, nil, _then_, Literal, Clause}
+use Rattle.rules.specs.Answer.{disjunctsIn, Reads}
 
 -- The elements are the numbers below n. A table takes the values of a symbol's arguments, as many as its arity.
 pub record Interpretation : Type 0 where
@@ -63,3 +64,8 @@ module _ (I : Interpretation) where
   -- an answer holds if under every assignment some disjunct has all its atoms true
   unfoldable pub AnswerHolds : {X : Type 0} → List (List (Literal X)) → Type 0
   AnswerHolds {X} ds = (a : Assignment I X) → someAllTrue (a .element) ds ≡ true
+
+-- An answer's words are true: what is read in them, so many disjuncts with as many literals each as the question, holds.
+pub record TrueAnswer (I : Interpretation) (question : Clause) (count : ℕ) (words : List ℕ) : Type 0 where
+  pub read : Reads question words count (disjunctsIn question words)
+  pub holds : AnswerHolds I (disjunctsIn question words)

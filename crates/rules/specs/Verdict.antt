@@ -10,6 +10,7 @@ use Rattle.words.specs.declared.Step.{Step}
 use Rattle.words.specs.declared.Step.the-variants.{Malformed}
 use Rattle.table.specs.Syntax.{Table}
 use Rattle.rules.specs.Substitution.{Substitution, Unifiable, MostGeneral}
+use Rattle.rules.specs.Setting.{Setting}
 use Rattle.rules.specs.Tableau.{Leaf, Tableau, start, stepped}
 use Rattle.rules.specs.Order.{Ending, found, nothing, Searched}
 use Rattle.rules.specs.Answer.{answerWords}
@@ -34,21 +35,21 @@ pub data CheckVerdict : Type 0 where
   refused : Refusal → ℕ → CheckVerdict
 
 -- The checker goes step by step: from a tableau, at a place, with these steps left, it comes to this verdict.
-pub data Checks (t : Table) (bound : ℕ) : Tableau → ℕ → List Step → CheckVerdict → Type 0 where
-  no-leaf : {x : Tableau} {place : ℕ} → x .leaves ≡ [] → Checks t bound x place [] (accepted x)
+pub data Checks (S : Setting) : Tableau → ℕ → List Step → CheckVerdict → Type 0 where
+  no-leaf : {x : Tableau} {place : ℕ} → x .leaves ≡ [] → Checks S x place [] (accepted x)
   -- 15: steps end with leaves open
   some-leaf : {x : Tableau} {place : ℕ} {leaf : Leaf} {rest : List Leaf} → x .leaves ≡ leaf ∷ rest
-      → Checks t bound x place [] (refused leaves-open place)
+      → Checks S x place [] (refused leaves-open place)
   -- 12: malformed step
-  no-step : {x : Tableau} {place : ℕ} {ss : List Step} → Checks t bound x place (Malformed ∷ ss) (refused malformed place)
+  no-step : {x : Tableau} {place : ℕ} {ss : List Step} → Checks S x place (Malformed ∷ ss) (refused malformed place)
   -- 13: well formed, but no leaf open, no such ancestor, clause or literal, pair not fitting, or extensions over the bound
-  no-tableau : {x : Tableau} {place : ℕ} {s : Step} {ss : List Step} → s ≢ Malformed → stepped t bound x s ≡ none
-      → Checks t bound x place (s ∷ ss) (refused not-allowed place)
+  no-tableau : {x : Tableau} {place : ℕ} {s : Step} {ss : List Step} → s ≢ Malformed → stepped S x s ≡ none
+      → Checks S x place (s ∷ ss) (refused not-allowed place)
   -- 14: pair doesn't unify with what is bound
-  no-unifier : {x y : Tableau} {place : ℕ} {s : Step} {ss : List Step} → stepped t bound x s ≡ some y → ¬ Unifiable (y .pairs)
-      → Checks t bound x place (s ∷ ss) (refused not-unified place)
-  taken : {x y : Tableau} {place : ℕ} {s : Step} {ss : List Step} {c : CheckVerdict} → stepped t bound x s ≡ some y → Unifiable (y .pairs)
-      → Checks t bound y (suc place) ss c → Checks t bound x place (s ∷ ss) c
+  no-unifier : {x y : Tableau} {place : ℕ} {s : Step} {ss : List Step} → stepped S x s ≡ some y → ¬ Unifiable (y .pairs)
+      → Checks S x place (s ∷ ss) (refused not-unified place)
+  taken : {x y : Tableau} {place : ℕ} {s : Step} {ss : List Step} {c : CheckVerdict} → stepped S x s ≡ some y → Unifiable (y .pairs)
+      → Checks S y (suc place) ss c → Checks S x place (s ∷ ss) c
 
 -- each with the tries
 pub data SearchVerdict : Type 0 where
@@ -61,9 +62,9 @@ ended (found steps) tries = finds steps tries
 ended nothing tries = finds-none tries
 
 -- The search runs out exactly when the stated order needs more tries than the budget; tries = budget then.
-pub data Searches (t : Table) (bound budget : ℕ) : SearchVerdict → Type 0 where
-  within : {e : Ending} {tries : ℕ} → Searched t bound (start t) e tries → tries ≤ budget → Searches t bound budget (ended e tries)
-  beyond : {e : Ending} {tries : ℕ} → Searched t bound (start t) e tries → budget < tries → Searches t bound budget (runs-out budget)
+pub data Searches (S : Setting) (budget : ℕ) : SearchVerdict → Type 0 where
+  within : {e : Ending} {tries : ℕ} → Searched S (start (S .table)) e tries → tries ≤ budget → Searches S budget (ended e tries)
+  beyond : {e : Ending} {tries : ℕ} → Searched S (start (S .table)) e tries → budget < tries → Searches S budget (runs-out budget)
 
 -- The answer of a closed tableau: the number of its disjuncts and its words, under a most general solution.
 pub record Answers (t : Table) (x : Tableau) (count : ℕ) (words : List ℕ) : Type 0 where

@@ -139,13 +139,12 @@ module _ (file : List ℕ) (z : judge file .status ≡ 0) where
       let a = accepted file z in
       rw (question-words, a .question) (clause-negative _ (none-of-front (suc (followingOf (getD (bodyOf file) (trailer file 0) 0))) (questionWords file) (a .negative)))
 
-  module _ (small : Words file) where
-    pub body-words : Words (bodyOf file)
-    body-words = each-take (λ (w : ℕ). w < 2 ^ 32) (length file - 4) file small
+  pub body-words : Words file → Words (bodyOf file)
+  body-words small = each-take (λ (w : ℕ). w < 2 ^ 32) (length file - 4) file small
 
-    pub accepted-within : Within (tableOf (bodyOf file))
-    accepted-within = table-within (bodyOf file) body-words body-readable
+  pub accepted-within : Within (tableOf (bodyOf file))
+  accepted-within = table-within (bodyOf file) body-readable
 
-    pub accepted-count : length (allClauses (tableOf (bodyOf file))) ≡ judge file .clauses
-    accepted-count =
-        ap (λ (cs : List Clause). length cs) (all-clauses (bodyOf file) (body-readable .some)) ∙ clauses-count (bodyOf file) ∙ clause-count
+  pub accepted-count : length (allClauses (tableOf (bodyOf file))) ≡ judge file .clauses
+  accepted-count =
+      ap (λ (cs : List Clause). length cs) (all-clauses (bodyOf file) (body-readable .some)) ∙ clauses-count (bodyOf file) ∙ clause-count

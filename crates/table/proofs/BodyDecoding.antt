@@ -1,4 +1,4 @@
--- A body that is read without fault is the encoding of the clauses that it decodes to, each within the limits.
+-- A body that is read without fault decodes to clauses within the limits, and of 32-bit words it is their encoding.
 use mathlib.Core.Path.{_≡_, refl, sym, ap, ap₂, _∙_}
 use mathlib.Core.Bool.{true}
 use mathlib.Core.List.{List, [], _∷_, _++_, map}
@@ -31,32 +31,31 @@ each-take P zero xs h = tt
 each-take P (suc n) [] h = tt
 each-take P (suc n) (x ∷ xs) h = (h .0, each-take P n xs (h .1))
 
--- a clause that has no fault is the encoding of what it decodes to
-module _ (w : ℕ) (ws : List ℕ) (small : Words (w ∷ ws)) (sound : clauseFault w ws ≡ none) where
+-- a clause that has no fault is within the limits, and of 32-bit words it is the encoding of what it decodes to
+module _ (w : ℕ) (ws : List ℕ) (sound : clauseFault w ws ≡ none) where
   shaped : clauseShaped w ≡ true
   unfolding clauseFault
   shaped = and-left _ (leb (followingOf w) (length ws)) (cond-none _ _ 0 sound .0)
 
   following : Decoded (variablesOf w) (literalsOf w) 0 (take (followingOf w) ws)
-  unfolding clauseFault Each
-  following =
-      decoded (take (followingOf w) ws) (each-take (λ (x : ℕ). x < 2 ^ 32) (followingOf w) ws (small .1)) (literalsOf w) 0 1 (cond-none (clauseFits w ws) _ 0 sound .1)
+  unfolding clauseFault
+  following = decoded (take (followingOf w) ws) (literalsOf w) 0 1 (cond-none (clauseFits w ws) _ 0 sound .1)
 
-  own-words : take (followingOf w) ws ≡ literalsWords (literalsFrom (take (followingOf w) ws))
+  no-terms-before : termsWords (termsFrom (take (followingOf w) ws)) ++ literalsWords (literalsFrom (take (followingOf w) ws)) ≡ literalsWords (literalsFrom (take (followingOf w) ws))
   unfolding termsWords
-  own-words =
-      following .words ∙ ap (λ (ts : Terms ℕ). termsWords ts ++ literalsWords (literalsFrom (take (followingOf w) ws))) (no-terms (termsFrom (take (followingOf w) ws)) (following .arities))
+  no-terms-before =
+      ap (λ (ts : Terms ℕ). termsWords ts ++ literalsWords (literalsFrom (take (followingOf w) ws))) (no-terms (termsFrom (take (followingOf w) ws)) (following .arities))
 
   own-count : length (literalsWords (literalsFrom (take (followingOf w) ws))) ≡ followingOf w
   own-count =
-      sym (ap (λ (xs : List ℕ). length xs) own-words) ∙ length-take-le (followingOf w) ws (sound-fits w ws sound)
+      sym (following .size ∙ ap (λ (xs : List ℕ). length xs) no-terms-before) ∙ length-take-le (followingOf w) ws (sound-fits w ws sound)
 
-  pub clause-encoded : clauseWords (clauseOf (w ∷ take (followingOf w) ws)) ≡ w ∷ take (followingOf w) ws
+  pub clause-encoded : Words (w ∷ ws) → clauseWords (clauseOf (w ∷ take (followingOf w) ws)) ≡ w ∷ take (followingOf w) ws
   unfolding clauseWords clauseOf Each
-  clause-encoded =
+  clause-encoded small =
       ap₂ (λ (x : ℕ) (xs : List ℕ). x ∷ xs)
       (ap₂ (λ (l f : ℕ). clauseWord l (variablesOf w) f) (following .count) own-count ∙ sym (clause-word w shaped (small .0)))
-      (sym own-words)
+      (sym (following .words (each-take (λ (x : ℕ). x < 2 ^ 32) (followingOf w) ws (small .1)) ∙ no-terms-before))
 
   pub clause-within : ClauseWithin (clauseOf (w ∷ take (followingOf w) ws))
   unfolding clauseOf
@@ -70,16 +69,16 @@ module _ (w : ℕ) (ws : List ℕ) (small : Words (w ∷ ws)) (sound : clauseFau
 
 -- so is a body, from the next clause on
 pub record Parts (passing : ℕ) (ws : List ℕ) : Type 0 where
-  pub words : clausesWords (map clauseOf (partsFrom passing ws)) ≡ drop passing ws
+  pub words : Words ws → clausesWords (map clauseOf (partsFrom passing ws)) ≡ drop passing ws
   pub within : Each ClauseWithin (map clauseOf (partsFrom passing ws))
 
-clause-part : (w : ℕ) (ws : List ℕ) → Words (w ∷ ws) → clauseFault w ws ≡ none → Parts (followingOf w) ws → Parts 0 (w ∷ ws)
+clause-part : (w : ℕ) (ws : List ℕ) → clauseFault w ws ≡ none → Parts (followingOf w) ws → Parts 0 (w ∷ ws)
 unfolding partsFrom clausesWords Each
-clause-part w ws small sound further = record {
-  words =
-      ap₂ (λ (xs ys : List ℕ). xs ++ ys) (clause-encoded w ws small sound) (further .words)
+clause-part w ws sound further = record {
+  words = λ small.
+      ap₂ (λ (xs ys : List ℕ). xs ++ ys) (clause-encoded w ws sound small) (further .words (small .1))
       ∙ ap (λ (xs : List ℕ). w ∷ xs) (take-append-drop (followingOf w) ws);
-  within = (clause-within w ws small sound, further .within);
+  within = (clause-within w ws sound, further .within);
 }
 
 rest-read : (o : Option ℕ) (at : ℕ) (further : Unit {0} → Option ℕ) → reading o at further ≡ none → further tt ≡ none
@@ -87,16 +86,16 @@ unfolding reading
 rest-read (some fault) at further e = cc
 rest-read none at further e = e
 
-pub parts-decoded : (ws : List ℕ) → Words ws → (passing at : ℕ) → bodyFault at passing ws ≡ none → passing ≤ length ws → Parts passing ws
+pub parts-decoded : (ws : List ℕ) (passing at : ℕ) → bodyFault at passing ws ≡ none → passing ≤ length ws → Parts passing ws
 unfolding bodyFault Each partsFrom clausesWords
-parts-decoded [] small zero at e h = record { words = refl; within = tt }
-parts-decoded [] small (suc passing) at e h = record { words = refl; within = tt }
-parts-decoded (w ∷ ws) small (suc passing) at e h =
-    let further = parts-decoded ws (small .1) passing (at + 1) e (omega arith) in
-    record { words = further .words; within = further .within }
-parts-decoded (w ∷ ws) small zero at e h =
+parts-decoded [] zero at e h = record { words = λ small. refl; within = tt }
+parts-decoded [] (suc passing) at e h = record { words = λ small. refl; within = tt }
+parts-decoded (w ∷ ws) (suc passing) at e h =
+    let further = parts-decoded ws passing (at + 1) e (omega arith) in
+    record { words = λ small. further .words (small .1); within = further .within }
+parts-decoded (w ∷ ws) zero at e h =
     let sound = reading-none (clauseFault w ws) at _ e in
-    clause-part w ws small sound (parts-decoded ws (small .1) (followingOf w) (at + 1) (rest-read (clauseFault w ws) at _ e) (sound-fits w ws sound))
+    clause-part w ws sound (parts-decoded ws (followingOf w) (at + 1) (rest-read (clauseFault w ws) at _ e) (sound-fits w ws sound))
 
 -- as many clauses as places where one begins
 pub parts-count : (ws : List ℕ) (at passing : ℕ) → length (partsFrom passing ws) ≡ length (starts at passing ws)
@@ -124,13 +123,13 @@ pub all-clauses : (body : List ℕ) → 1 ≤ length (starts 0 0 body) → allCl
 unfolding tableOf
 all-clauses body h = all-of-table (clausesOf body) (omega (arith, clauses-count body))
 
-module _ (body : List ℕ) (small : Words body) (r : Readable body) where
+module _ (body : List ℕ) (r : Readable body) where
   parts : Parts 0 body
-  parts = parts-decoded body small 0 0 (r .sound) (omega arith)
+  parts = parts-decoded body 0 0 (r .sound) (omega arith)
 
-  pub table-encoded : bodyWords (tableOf body) ≡ body
+  pub table-encoded : Words body → bodyWords (tableOf body) ≡ body
   unfolding bodyWords clausesOf
-  table-encoded = ap (λ (cs : List Clause). clausesWords cs) (all-clauses body (r .some)) ∙ parts .words
+  table-encoded small = ap (λ (cs : List Clause). clausesWords cs) (all-clauses body (r .some)) ∙ parts .words small
 
   pub table-within : Within (tableOf body)
   unfolding clausesOf

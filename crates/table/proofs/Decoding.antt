@@ -73,25 +73,26 @@ module _ (w : ℕ) (ws : List ℕ) where
 some-none : (n : ℕ) → some n ≡ none → ⊥
 some-none n e = let z : _≡_ {A = ℕ} 0 1 = cc in omega arith
 
--- words that owe so many literals and terms are those, encoded
+-- words that owe so many literals and terms are as many as those, encoded, and where they have 32 bits they are the same
 pub record Decoded (v l t : ℕ) (ws : List ℕ) : Type 0 where
-  pub words : ws ≡ termsWords (termsFrom ws) ++ literalsWords (literalsFrom ws)
+  pub words : Words ws → ws ≡ termsWords (termsFrom ws) ++ literalsWords (literalsFrom ws)
+  pub size : length ws ≡ length (termsWords (termsFrom ws) ++ literalsWords (literalsFrom ws))
   pub arities : arity (termsFrom ws) ≡ t
   pub count : length (literalsFrom ws) ≡ l
   pub terms : TermsWithin (termsFrom ws) v
   pub literals : Each (LiteralWithin v) (literalsFrom ws)
 
-module _ {v w : ℕ} {ws : List ℕ} (small : w < 2 ^ 32) where
+module _ {v w : ℕ} {ws : List ℕ} where
   variable-step : {l t : ℕ} → variableFits v w ≡ true → Decoded v l t ws → Decoded v l (suc t) (w ∷ ws)
-  unfolding termWords termsWords arity TermWithin TermsWithin
+  unfolding termWords termsWords arity TermWithin TermsWithin Each
   variable-step {l} {t} e d =
       let shaped : variableShaped w ≡ true = and-left _ (ltb (numberOf w) v) e in
       let kind : kindOf w ≡ 0 = plain-kind 0 10 w shaped in
-      let same : w ≡ variableWord (numberOf w) = variable-word w small shaped in
       let terms = from-variable w ws kind in
       let others = literals-other w ws (omega arith) in
       record {
-        words = rw (terms, others) (ap₂ (λ (x : ℕ) (xs : List ℕ). x ∷ xs) same (d .words));
+        words = λ small. rw (terms, others) (ap₂ (λ (x : ℕ) (xs : List ℕ). x ∷ xs) (variable-word w (small .0) shaped) (d .words (small .1)));
+        size = rw (terms, others) (ap suc (d .size));
         arities = rw terms (ap suc (d .arities));
         count = rw others (d .count);
         terms = rw terms (ltb-true _ _ (and-right (variableShaped w) _ e), d .terms);
@@ -99,18 +100,20 @@ module _ {v w : ℕ} {ws : List ℕ} (small : w < 2 ^ 32) where
       }
 
   function-step : {l t : ℕ} → functionShaped w ≡ true → Decoded v l (arityOf w + t) ws → Decoded v l (suc t) (w ∷ ws)
-  unfolding termWords termsWords arity TermWithin TermsWithin
+  unfolding termWords termsWords arity TermWithin TermsWithin Each
   function-step {l} {t} e d =
       let kind : kindOf w ≡ 1 = plain-kind 1 15 w (function-plain w e) in
       let terms = from-function w ws kind in
       let others = literals-other w ws (omega arith) in
       let firsts = arity-first (arityOf w) t (termsFrom ws) (d .arities) in
+      let split = ap (λ (xs : List ℕ). xs ++ literalsWords (literalsFrom ws)) (words-split (arityOf w) (termsFrom ws)) in
       record {
-        words =
+        words = λ small.
             rw (terms, others)
             (ap₂ (λ (x : ℕ) (xs : List ℕ). x ∷ xs)
-            (function-word w e small ∙ ap (λ (a : ℕ). functionWord (symbolOf w) a) (sym firsts))
-            (d .words ∙ ap (λ (xs : List ℕ). xs ++ literalsWords (literalsFrom ws)) (words-split (arityOf w) (termsFrom ws))));
+            (function-word w e (small .0) ∙ ap (λ (a : ℕ). functionWord (symbolOf w) a) (sym firsts))
+            (d .words (small .1) ∙ split));
+        size = rw (terms, others) (ap suc (d .size ∙ ap (λ (xs : List ℕ). length xs) split));
         arities = rw terms (ap suc (arity-rest (arityOf w) t (termsFrom ws) (d .arities)));
         count = rw others (d .count);
         terms = rw terms ((bits-small 0 12 w, omega (arith, firsts, function-arity-small w e), within-first (arityOf w) v (termsFrom ws) (d .terms)), within-rest (arityOf w) v (termsFrom ws) (d .terms));
@@ -124,11 +127,12 @@ module _ {v w : ℕ} {ws : List ℕ} (small : w < 2 ^ 32) where
       let terms = from-literal w ws kind in
       let more = literals-literal w ws kind in
       record {
-        words =
+        words = λ small.
             rw (terms, more)
             (ap₂ (λ (x : ℕ) (xs : List ℕ). x ∷ xs)
-            (literal-word w e small ∙ ap (λ (a : ℕ). literalWord (negativeOf w) (symbolOf w) a) (sym (d .arities)))
-            (d .words));
+            (literal-word w e (small .0) ∙ ap (λ (a : ℕ). literalWord (negativeOf w) (symbolOf w) a) (sym (d .arities)))
+            (d .words (small .1)));
+        size = rw (terms, more) (ap suc (d .size));
         arities = rw terms refl;
         count = rw more (ap suc (d .count));
         terms = rw terms tt;
@@ -136,17 +140,17 @@ module _ {v w : ℕ} {ws : List ℕ} (small : w < 2 ^ 32) where
       }
 
 -- where no fault follows a word, it is one of the three that were owed, and none follows from the next word on
-module _ {v w : ℕ} {ws : List ℕ} (small : w < 2 ^ 32) (further : (l t at : ℕ) → fault v l t at ws ≡ none → Decoded v l t ws) where
+module _ {v w : ℕ} {ws : List ℕ} (further : (l t at : ℕ) → fault v l t at ws ≡ none → Decoded v l t ws) where
   term-owed : (l t at : ℕ) (b c : Bool) → variableFits v w ≡ b → functionShaped w ≡ c → fault v l (suc t) at (w ∷ ws) ≡ none → Decoded v l (suc t) (w ∷ ws)
   unfolding fault onward after afterTerm termArity
   term-owed l t at true c eb ec e =
-      let z : 0 + t ≡ t = omega arith in variable-step small eb (further l t (at + 1) (rw (eb, z) at e))
-  term-owed l t at false true eb ec e = function-step small ec (further l (arityOf w + t) (at + 1) (rw (eb, ec) at e))
+      let z : 0 + t ≡ t = omega arith in variable-step eb (further l t (at + 1) (rw (eb, z) at e))
+  term-owed l t at false true eb ec e = function-step ec (further l (arityOf w + t) (at + 1) (rw (eb, ec) at e))
   term-owed l t at false false eb ec e = absurd (some-none at (rw (eb, ec) at e))
 
   literal-owed : (l at : ℕ) (b : Bool) → literalShaped w ≡ b → fault v (suc l) 0 at (w ∷ ws) ≡ none → Decoded v (suc l) 0 (w ∷ ws)
   unfolding fault onward after afterLiteral
-  literal-owed l at true eb e = literal-step small eb (further l (arityOf w) (at + 1) (rw eb at e))
+  literal-owed l at true eb e = literal-step eb (further l (arityOf w) (at + 1) (rw eb at e))
   literal-owed l at false eb e = absurd (some-none at (rw eb at e))
 
   word-owed : (l t at : ℕ) → fault v l t at (w ∷ ws) ≡ none → Decoded v l t (w ∷ ws)
@@ -159,9 +163,8 @@ nothing-owed : {v : ℕ} (l t at : ℕ) → fault v l t at [] ≡ none → Decod
 unfolding fault stopsShort termsFrom literalsFrom termsWords literalsWords TermsWithin Each arity
 nothing-owed l (suc t) at e = absurd (some-none at e)
 nothing-owed (suc l) zero at e = absurd (some-none at e)
-nothing-owed zero zero at e = record { words = refl; arities = refl; count = refl; terms = tt; literals = tt }
+nothing-owed zero zero at e = record { words = λ small. refl; size = refl; arities = refl; count = refl; terms = tt; literals = tt }
 
-pub decoded : {v : ℕ} (ws : List ℕ) → Words ws → (l t at : ℕ) → fault v l t at ws ≡ none → Decoded v l t ws
-unfolding Each
-decoded [] small = nothing-owed
-decoded (w ∷ ws) small = word-owed (small .0) (decoded ws (small .1))
+pub decoded : {v : ℕ} (ws : List ℕ) (l t at : ℕ) → fault v l t at ws ≡ none → Decoded v l t ws
+decoded [] = nothing-owed
+decoded (w ∷ ws) = word-owed (decoded ws)

@@ -162,14 +162,14 @@ function-decoded f ts us ws hf ha e =
 mutual
   unfolding termWords TermWithin joined
 
-  term-decoded : (x : Term ℕ) (v : ℕ) (ws : List ℕ) → v ≤ 16 → TermWithin x v → termsFrom (termWords x ++ ws) ≡ x then termsFrom ws
+  term-decoded : (x : Term ℕ) (v : ℕ) (ws : List ℕ) → v ≤ 2 ^ 10 → TermWithin x v → termsFrom (termWords x ++ ws) ≡ x then termsFrom ws
   term-decoded (var x) v ws few h =
       let small : x < 2 ^ 10 = omega arith in
       from-variable (variableWord x) ws (variable-kind x small) ∙ rw (variable-number x small)
   term-decoded (app f ts) v ws few h =
       function-decoded f ts (termsFrom ws) (termsWords ts ++ ws) (h .0) (h .1) (terms-decoded ts v ws few (h .2))
 
-  terms-decoded : (ts : Terms ℕ) (v : ℕ) (ws : List ℕ) → v ≤ 16 → TermsWithin ts v → termsFrom (termsWords ts ++ ws) ≡ joined ts (termsFrom ws)
+  terms-decoded : (ts : Terms ℕ) (v : ℕ) (ws : List ℕ) → v ≤ 2 ^ 10 → TermsWithin ts v → termsFrom (termsWords ts ++ ws) ≡ joined ts (termsFrom ws)
   terms-decoded nil v ws few h = refl
   terms-decoded (x then ts) v ws few h =
       ap (λ (us : List ℕ). termsFrom us) (append-assoc (termWords x) (termsWords ts) ws)
@@ -179,7 +179,7 @@ mutual
 mutual
   unfolding termWords TermWithin
 
-  term-passed : (x : Term ℕ) (v : ℕ) (ws : List ℕ) → v ≤ 16 → TermWithin x v → literalsFrom (termWords x ++ ws) ≡ literalsFrom ws
+  term-passed : (x : Term ℕ) (v : ℕ) (ws : List ℕ) → v ≤ 2 ^ 10 → TermWithin x v → literalsFrom (termWords x ++ ws) ≡ literalsFrom ws
   term-passed (var x) v ws few h =
       let small : x < 2 ^ 10 = omega arith in
       literals-other (variableWord x) ws (λ e. omega (arith, variable-kind x small))
@@ -188,7 +188,7 @@ mutual
       literals-other (functionWord f (arity ts)) (termsWords ts ++ ws) (λ e. omega (arith, function-kind f (arity ts) (h .0) small))
       ∙ terms-passed ts v ws few (h .2)
 
-  terms-passed : (ts : Terms ℕ) (v : ℕ) (ws : List ℕ) → v ≤ 16 → TermsWithin ts v → literalsFrom (termsWords ts ++ ws) ≡ literalsFrom ws
+  terms-passed : (ts : Terms ℕ) (v : ℕ) (ws : List ℕ) → v ≤ 2 ^ 10 → TermsWithin ts v → literalsFrom (termsWords ts ++ ws) ≡ literalsFrom ws
   terms-passed nil v ws few h = refl
   terms-passed (x then ts) v ws few h =
       ap (λ (us : List ℕ). literalsFrom us) (append-assoc (termWords x) (termsWords ts) ws)
@@ -210,7 +210,7 @@ literal-decoded l ws hp ha e =
     literals-literal _ ws (literal-kind p a hp small (l .negative))
     ∙ (λ i. record { negative = literal-negative p a hp small (l .negative) i; predicate = literal-predicate p a hp small (l .negative) i; arguments = e i } ∷ literalsFrom ws)
 
-literals-decoded : {v : ℕ} (ls : List (Literal ℕ)) → v ≤ 16 → Each (LiteralWithin v) ls → literalsFrom (literalsWords ls) ≡ ls
+pub literals-decoded : {v : ℕ} (ls : List (Literal ℕ)) → v ≤ 2 ^ 10 → Each (LiteralWithin v) ls → literalsFrom (literalsWords ls) ≡ ls
 unfolding literalsWords literalWords literalsFrom Each
 literals-decoded [] few h = refl
 literals-decoded {v} (l ∷ ls) few h =
@@ -219,10 +219,10 @@ literals-decoded {v} (l ∷ ls) few h =
     ∙ ap (λ (ks : List (Literal ℕ)). l ∷ ks) (terms-passed (l .arguments) v (literalsWords ls) few (h .0 .arguments) ∙ literals-decoded ls few (h .1))
 
 module _ (c : Clause) (h : ClauseWithin c) where
-  clause-decoded : clauseOf (clauseWords c) ≡ c
+  pub clause-decoded : clauseOf (clauseWords c) ≡ c
   unfolding clauseOf clauseWords word
   clause-decoded i =
-      record { variables = clause-has-variables c h i; literals = literals-decoded (c .literals) (h .variables) (h .literals) i }
+      record { variables = clause-has-variables c h i; literals = literals-decoded (c .literals) (omega (arith, h .variables)) (h .literals) i }
 
   clause-parts : (ws : List ℕ) → partsFrom 0 (clauseWords c ++ ws) ≡ clauseWords c ∷ partsFrom 0 ws
   unfolding partsFrom clauseWords word own
@@ -286,7 +286,7 @@ module _ (t : Table) (h : Within t) where
   }
 
 -- the words of a table within the limits have 32 bits
-each-append : {A : Type 0} (P : A → Type 0) (xs ys : List A) → Each P xs → Each P ys → Each P (xs ++ ys)
+pub each-append : {A : Type 0} (P : A → Type 0) (xs ys : List A) → Each P xs → Each P ys → Each P (xs ++ ys)
 unfolding Each
 each-append P [] ys h k = k
 each-append P (x ∷ xs) ys h k = (h .0, each-append P xs ys (h .1) k)

@@ -66,7 +66,7 @@ clause-not-positive c h n =
     rw (other-positive word (λ e. omega arith)) (literals-not-positive (c .variables) (c .literals) (h .variables) (h .literals) n)
 
 -- the last clause begins after the words of the others, and its words are the last
-clauses-append : (cs ds : List Clause) → clausesWords (cs ++ ds) ≡ clausesWords cs ++ clausesWords ds
+pub clauses-append : (cs ds : List Clause) → clausesWords (cs ++ ds) ≡ clausesWords cs ++ clausesWords ds
 unfolding clausesWords
 clauses-append [] ds = refl
 clauses-append (c ∷ cs) ds = rw (append-assoc (clauseWords c) (clausesWords cs) (clausesWords ds), ← clauses-append cs ds)
@@ -146,7 +146,7 @@ module _ (t : Table) (h : FileWithin t) where
   unfolding allClauses
   asks = each-last ClauseWithin (t .clauses) (t .question) (h .table .clauses)
 
-  body-split : bodyWords t ≡ clausesWords (t .clauses) ++ clauseWords (t .question)
+  pub body-split : bodyWords t ≡ clausesWords (t .clauses) ++ clauseWords (t .question)
   unfolding bodyWords allClauses clausesWords
   body-split =
       clauses-append (t .clauses) (t .question ∷ [])
@@ -194,11 +194,11 @@ file-parts file h =
 
 module _ (file : List ℕ) (small : Words file) (z : judge file .status ≡ 0) where
   encoded : bodyWords (tableOf (bodyOf file)) ≡ bodyOf file
-  encoded = table-encoded (bodyOf file) (body-words file z small) (body-readable file z)
+  encoded = table-encoded (bodyOf file) (body-readable file z) (body-words file z small)
 
   pub file-within : FileWithin (tableOf (bodyOf file))
   file-within = record {
-    table = accepted-within file z small;
+    table = accepted-within file z;
     question = question-negative file z;
     short = omega (arith, ap (λ (us : List ℕ). length us) encoded, body-length file, accepted file z .least, accepted file z .most);
   }
@@ -208,7 +208,7 @@ module _ (file : List ℕ) (small : Words file) (z : judge file .status ≡ 0) w
   file-encoded =
       let a = accepted file z in
       let first = sym (a .last) ∙ ap (λ (us : List ℕ). lastOf 0 (starts 0 0 us)) (sym encoded) ∙ begins (tableOf (bodyOf file)) file-within in
-      let second = sym (a .clauses) ∙ sym (accepted-count file z small) in
+      let second = sym (a .clauses) ∙ sym (accepted-count file z) in
       let third = sym (a .fingerprints) ∙ ap (λ (us : List ℕ). fingerprint us) (sym encoded) in
       let fourth = a .right .whole ∙ body-length file ∙ ap (λ (us : List ℕ). length us) (sym encoded) in
       file-parts file (omega (arith, a .least))

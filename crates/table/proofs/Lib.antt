@@ -14,4 +14,5 @@ pub mod Positions
 pub mod AcceptedTable
 pub mod FileEncoding
 pub mod Meaning
+pub mod Building
 pub mod Examples

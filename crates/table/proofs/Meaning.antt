@@ -16,7 +16,7 @@ use Rattle.table.proofs.FileEncoding.{file-accepted, file-within, file-
 
 pub read-exactly : (body : List ℕ) → Words body → Readable body ↔ ((t : Table) × Within t × (body ≡ bodyWords t))
 read-exactly body small = (
-  λ r. (tableOf body, table-within body small r, sym (table-encoded body small r)),
+  λ r. (tableOf body, table-within body r, sym (table-encoded body r small)),
   λ e. rw (e .2) (table-readable (e .0) (e .1)),
 )
 
@@ -25,7 +25,7 @@ pub decode-encode : (t : Table) → Within t → tableOf (bodyWords t) ≡ t
 decode-encode = table-decoded
 
 pub encode-decode : (body : List ℕ) → Words body → Readable body → bodyWords (tableOf body) ≡ body
-encode-decode = table-encoded
+encode-decode body small r = table-encoded body r small
 
 -- the table is one
 pub one-table : (s t : Table) → Within s → Within t → bodyWords s ≡ bodyWords t → s ≡ t

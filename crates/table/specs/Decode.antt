@@ -1,3 +1,4 @@
+-- Machinery: need not be believed, since proofs/Meaning shows that it is the one inverse of Encode (decode-encode, encode-decode).
 -- What the words of a body say, as terms, literals, clauses and a table (Syntax). Prefix code read from the right with a stack: a variable is
 -- pushed, a symbol takes as many terms off as it has arguments and is pushed. So the first term of a list of words is the term that stands
 -- where the list begins, and the others are the terms after it, up to the next literal.

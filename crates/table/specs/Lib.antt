@@ -5,4 +5,5 @@ pub mod Body
 pub mod File
 pub mod Decode
 pub mod Limits
+pub mod Build
 pub mod Readers

@@ -1,4 +1,5 @@
 // Table: reading a question file (document 01, statuses 4 to 9), and looking up a clause.
+pub mod build;
 pub mod file;
 pub mod read;
 

@@ -2,31 +2,31 @@
 use mathlib.Core.Path.{_≡_, refl, ap, subst}
 use mathlib.Core.Logic.{_⊎_, inl, inr, ⊎-map}
 use mathlib.Core.Bool.{true, false}
-use mathlib.Core.Option.{Option, none, some}
 use mathlib.Core.List.{List, [], _∷_}
 use Prim.Native.Nat.{ℕ}
-use Rattle.rules.specs.System.{System, _∈_, first, later, Earlier, heads, behind, Distinct, fresh, Searched, Way, here, step, Before, differs, agrees}
+use Rattle.rules.specs.System.{System, Ending, found, nothing, _∈_, first, later, Searched}
+use Rattle.rules.proofs.System.Ways.{Earlier, heads, behind, Distinct, fresh, Way, here, step, Before, differs, agrees, Determined}
 use Rattle.rules.proofs.System.Clash.{clash}
 use Rattle.rules.proofs.System.Induction.{Claim, claimed}
 
-module _ (S : System) where
-  open System S using (State, Move, done, moves, next)
+module _ (S : System) (one : Determined S) where
+  open System S using (State, Move, done, moves, leads, fails)
 
   -- A way that begins with one of these moves, and the order of two lists of moves where the first move is one of these.
   data RowWay (s : State) (ms : List Move) : List Move → Type 0 where
-    by : {t : State} {m : Move} {p : List Move} → m ∈ ms → next s m ≡ some t → Way S t p → RowWay s ms (m ∷ p)
+    by : {t : State} {m : Move} {p : List Move} → m ∈ ms → leads s m t → Way S t p → RowWay s ms (m ∷ p)
 
   data RowBefore (s : State) (ms : List Move) : List Move → List Move → Type 0 where
     row-differs : {m n : Move} {p q : List Move} → Earlier m n ms → RowBefore s ms (m ∷ p) (n ∷ q)
-    row-agrees : {t : State} {m : Move} {p q : List Move} → next s m ≡ some t → Before S t p q → RowBefore s ms (m ∷ p) (m ∷ q)
+    row-agrees : {t : State} {m : Move} {p q : List Move} → leads s m t → Before S t p q → RowBefore s ms (m ∷ p) (m ∷ q)
 
-  abbrev pub First : State → Option (List Move) → Type 0
-  First s none = (q : List Move) → ¬ Way S s q
-  First s (some p) = Way S s p × ((q : List Move) → Way S s q → (q ≡ p) ⊎ Before S s p q)
+  abbrev pub First : State → Ending Move → Type 0
+  First s nothing = (q : List Move) → ¬ Way S s q
+  First s (found p) = Way S s p × ((q : List Move) → Way S s q → (q ≡ p) ⊎ Before S s p q)
 
-  abbrev FirstOf : State → List Move → Option (List Move) → Type 0
-  FirstOf s ms none = (q : List Move) → ¬ RowWay s ms q
-  FirstOf s ms (some p) = RowWay s ms p × ((q : List Move) → RowWay s ms q → (q ≡ p) ⊎ RowBefore s ms p q)
+  abbrev FirstOf : State → List Move → Ending Move → Type 0
+  FirstOf s ms nothing = (q : List Move) → ¬ RowWay s ms q
+  FirstOf s ms (found p) = RowWay s ms p × ((q : List Move) → RowWay s ms q → (q ≡ p) ⊎ RowBefore s ms p q)
 
   open-or-done : {A : Type 0} (s : State) → done s ≡ true → done s ≡ false → A
   open-or-done s e e′ = clash cc
@@ -51,32 +51,32 @@ module _ (S : System) where
 
   -- a move from which there is no way makes no difference
   abbrev Dead : State → Move → Type 0
-  Dead s m = (t : State) → next s m ≡ some t → (q : List Move) → ¬ Way S t q
+  Dead s m = (t : State) → leads s m t → (q : List Move) → ¬ Way S t q
 
   earlier-way : {s : State} {m : Move} {ms p : List Move} → Dead s m → RowWay s (m ∷ ms) p → RowWay s ms p
   earlier-way dead (by first f w) = absurd (dead _ f _ w)
   earlier-way dead (by (later i) f w) = by i f w
 
-  passed : {s : State} {m : Move} (ms : List Move) (o : Option (List Move)) → Dead s m → FirstOf s ms o → FirstOf s (m ∷ ms) o
-  passed ms none dead h = λ q w. h q (earlier-way dead w)
-  passed ms (some p) dead h = (later-way (h .0), λ q w. ⊎-map (λ e. e) later-before (h .1 q (earlier-way dead w)))
+  passed : {s : State} {m : Move} (ms : List Move) (o : Ending Move) → Dead s m → FirstOf s ms o → FirstOf s (m ∷ ms) o
+  passed ms nothing dead h = λ q w. h q (earlier-way dead w)
+  passed ms (found p) dead h = (later-way (h .0), λ q w. ⊎-map (λ e. e) later-before (h .1 q (earlier-way dead w)))
 
-  fails-dead : {s : State} {m : Move} → next s m ≡ none → Dead s m
-  fails-dead f t g q w = clash cc
+  fails-dead : {s : State} {m : Move} → fails s m → Dead s m
+  fails-dead f t g q w = absurd (one .not-both g f)
 
-  in-vain-dead : {s t : State} {m : Move} → next s m ≡ some t → First t none → Dead s m
-  in-vain-dead {t} f h u g q w = h q (subst (λ (x : State). Way S x q) (let e : u ≡ t = cc in e) w)
+  in-vain-dead : {s t : State} {m : Move} → leads s m t → First t nothing → Dead s m
+  in-vain-dead {t} f h u g q w = h q (subst (λ (x : State). Way S x q) (one .one-next f g) w)
 
-  compared : {s t : State} {m : Move} {ms p q : List Move} → next s m ≡ some t
+  compared : {s t : State} {m : Move} {ms p q : List Move} → leads s m t
       → ((q : List Move) → Way S t q → (q ≡ p) ⊎ Before S t p q)
       → RowWay s (m ∷ ms) q → (q ≡ m ∷ p) ⊎ RowBefore s (m ∷ ms) (m ∷ p) q
   compared {t} {m} f h (by {t = u} {p = q} first g w) =
-      ⊎-map (ap (m ∷_)) (row-agrees f) (h q (subst (λ (x : State). Way S x q) (let e : u ≡ t = cc in e) w))
+      ⊎-map (ap (m ∷_)) (row-agrees f) (h q (subst (λ (x : State). Way S x q) (one .one-next f g) w))
   compared f h (by (later i) g w) = inr (row-differs (heads i))
 
-  looked-first : {s : State} (o : Option (List Move)) → done s ≡ false → FirstOf s (moves s) o → First s o
-  looked-first none e h = λ q w. h q (to-row e w)
-  looked-first (some p) e h = (to-way e (h .0), λ q w. ⊎-map (λ x. x) to-before (h .1 q (to-row e w)))
+  looked-first : {s : State} (o : Ending Move) → done s ≡ false → FirstOf s (moves s) o → First s o
+  looked-first nothing e h = λ q w. h q (to-row e w)
+  looked-first (found p) e h = (to-way e (h .0), λ q w. ⊎-map (λ x. x) to-before (h .1 q (to-row e w)))
 
   only-way : {s : State} {q : List Move} → done s ≡ true → Way S s q → (q ≡ []) ⊎ Before S s [] q
   only-way e (here e′) = inl refl
@@ -98,7 +98,7 @@ module _ (S : System) where
       no-moves : {s : State} {q : List Move} → ¬ RowWay s [] q
       no-moves (by i f w) = elim i [ ]
 
-  pub searched-first : {s : State} {o : Option (List Move)} {n : ℕ} → Searched S s o n → First s o
+  pub searched-first : {s : State} {o : Ending Move} {n : ℕ} → Searched S s o n → First s o
   unfolding firsts
   searched-first d = claimed S firsts d
 
@@ -113,12 +113,12 @@ module _ {A : Type 0} where
   earlier-asym (fresh h d) (behind x) (heads j) = h (earlier-in x)
   earlier-asym (fresh h d) (behind x) (behind y) = earlier-asym d x y
 
-module _ (S : System) (distinct : (s : S .State) → Distinct (S .moves s)) where
-  open System S using (State, Move, next)
+module _ (S : System) (one : Determined S) (distinct : (s : S .State) → Distinct (S .moves s)) where
+  open System S using (State, Move)
 
   pub before-asym : {s : State} {p q : List Move} → Before S s p q → ¬ Before S s q p
   before-asym {s} (differs x) (differs y) = earlier-asym (distinct s) x y
   before-asym {s} (differs x) (agrees f b) = earlier-asym (distinct s) x x
   before-asym {s} (agrees f b) (differs y) = earlier-asym (distinct s) y y
   before-asym (agrees {t} {p} {q} f b) (agrees {t = u} f′ b′) =
-      before-asym b (subst (λ (x : State). Before S x q p) (let e : u ≡ t = cc in e) b′)
+      before-asym b (subst (λ (x : State). Before S x q p) (one .one-next f f′) b′)

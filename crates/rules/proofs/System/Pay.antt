@@ -1,12 +1,12 @@
 -- Paying for so many tries out of a budget before going on with what is left of it.
 use mathlib.Core.Path.{_≡_, refl, sym}
 use mathlib.Core.Logic.{_≢_}
-use mathlib.Core.Option.{Option, none, some}
 use mathlib.Core.List.{List, _∷_}
 use Prim.Native.Nat.{ℕ, zero, suc, _+_, _-_, _≤_, _<_}
 use native.Mathlib.Nat.{zero-add, suc-add, sub-zero, suc-sub-suc, not-suc-le-zero}
 use native.Mathlib.Omega.{arith}
-use Rattle.rules.specs.System.Run.{Result, found, no-way, ran-out, verdict, put, after}
+use Rattle.rules.specs.System.{Ending, found, nothing}
+use Rattle.rules.specs.Machinery.Run.{Result, way, no-way, ran-out, verdict, put, after}
 use Rattle.rules.proofs.System.Clash.{clash}
 
 module _ {M : Type 0} where
@@ -53,42 +53,42 @@ module _ {M : Type 0} where
 
   -- what comes of a move that was tried, when the search from the next state pays for n tries
   pub after-found : (n budget : ℕ) (m : M) (p : List M) (rest : ℕ → Result M)
-      → after (put m (pay n budget (verdict (some p)))) rest ≡ pay n budget (verdict (some (m ∷ p)))
+      → after (put m (pay n budget (verdict (found p)))) rest ≡ pay n budget (verdict (found (m ∷ p)))
   unfolding pay put after
   after-found zero budget m p rest = refl
   after-found (suc n) zero m p rest = refl
   after-found (suc n) (suc left) m p rest = after-found n left m p rest
 
-  pub after-none : (n budget : ℕ) (m : M) (rest : ℕ → Result M) → after (put m (pay n budget (verdict none))) rest ≡ pay n budget rest
+  pub after-none : (n budget : ℕ) (m : M) (rest : ℕ → Result M) → after (put m (pay n budget (verdict nothing))) rest ≡ pay n budget rest
   unfolding pay put after
   after-none zero budget m rest = refl
   after-none (suc n) zero m rest = refl
   after-none (suc n) (suc left) m rest = after-none n left m rest
 
   -- an outcome tells what was paid, and a budget that ran out was less
-  same-verdict : (o x : Option (List M)) (budget left : ℕ) → verdict o budget ≡ verdict x left → (o ≡ x) × (budget ≡ left)
-  same-verdict (some p) (some q) budget left e = (cc, cc)
-  same-verdict (some p) none budget left e = (cc, cc)
-  same-verdict none (some q) budget left e = (cc, cc)
-  same-verdict none none budget left e = (refl, cc)
+  same-verdict : (o x : Ending M) (budget left : ℕ) → verdict o budget ≡ verdict x left → (o ≡ x) × (budget ≡ left)
+  same-verdict (found p) (found q) budget left e = (cc, cc)
+  same-verdict (found p) nothing budget left e = (cc, cc)
+  same-verdict nothing (found q) budget left e = (cc, cc)
+  same-verdict nothing nothing budget left e = (refl, cc)
 
-  not-ran-out : {A : Type 0} (o : Option (List M)) (left : ℕ) → verdict o left ≡ ran-out → A
-  not-ran-out (some p) left e = clash cc
-  not-ran-out none left e = clash cc
+  not-ran-out : {A : Type 0} (o : Ending M) (left : ℕ) → verdict o left ≡ ran-out → A
+  not-ran-out (found p) left e = clash cc
+  not-ran-out nothing left e = clash cc
 
-  pub paid : (n budget : ℕ) (o x : Option (List M)) (left : ℕ) → pay n budget (verdict o) ≡ verdict x left → (o ≡ x) × (budget ≡ n + left)
+  pub paid : (n budget : ℕ) (o x : Ending M) (left : ℕ) → pay n budget (verdict o) ≡ verdict x left → (o ≡ x) × (budget ≡ n + left)
   unfolding pay
   paid zero budget o x left e = let same = same-verdict o x budget left e in (same .0, omega (arith, same .1))
   paid (suc n) zero o x left e = not-ran-out x left (sym e)
   paid (suc n) (suc budget) o x left e = let same = paid n budget o x left e in (same .0, omega (arith, same .1))
 
-  pub unpaid : (n budget : ℕ) (o : Option (List M)) → pay n budget (verdict o) ≡ ran-out → budget < n
+  pub unpaid : (n budget : ℕ) (o : Ending M) → pay n budget (verdict o) ≡ ran-out → budget < n
   unfolding pay
   unpaid zero budget o e = not-ran-out o budget e
   unpaid (suc n) zero o e = omega arith
   unpaid (suc n) (suc budget) o e = let h = unpaid n budget o e in omega arith
 
-  pub decided : (r : Result M) → r ≢ ran-out → (o : Option (List M)) × (left : ℕ) × (r ≡ verdict o left)
-  decided (found p left) h = (some p, left, refl)
-  decided (no-way left) h = (none, left, refl)
+  pub decided : (r : Result M) → r ≢ ran-out → (o : Ending M) × (left : ℕ) × (r ≡ verdict o left)
+  decided (way p left) h = (found p, left, refl)
+  decided (no-way left) h = (nothing, left, refl)
   decided ran-out h = absurd (h refl)

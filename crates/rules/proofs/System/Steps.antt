@@ -5,88 +5,81 @@ use mathlib.Core.Option.{none, some}
 use mathlib.Core.List.{List, [], _∷_}
 use Prim.Native.Nat.{ℕ, suc, _-_, _<_}
 use native.Mathlib.Omega.{arith}
-use Rattle.rules.specs.System.{System}
-use Rattle.rules.specs.System.Run.{Result, found, no-way, ran-out, put, after, spend, enter, inTurn, visit, search, one, row}
+use Rattle.rules.specs.Machinery.Run.{Program, Result, way, no-way, ran-out, put, after, spend, enter, inTurn, visit, search, one, row}
 
-module _ (S : System) where
-  open System S using (State, Move, done, moves, next)
+module _ (P : Program) where
+  open Program P using (State, Move, done, moves, next)
 
-  pub search-zero : (budget : ℕ) (s : State) → search S 0 budget s ≡ ran-out
+  pub search-zero : (budget : ℕ) (s : State) → search P 0 budget s ≡ ran-out
   unfolding search
   search-zero budget s = refl
 
-  pub search-done : (depth budget : ℕ) (s : State) → done s ≡ true → search S (suc depth) budget s ≡ found [] budget
+  pub search-done : (depth budget : ℕ) (s : State) → done s ≡ true → search P (suc depth) budget s ≡ way [] budget
   unfolding search visit
   search-done depth budget s e = rw (e, visit)
 
-  pub search-open : (depth budget : ℕ) (s : State) → done s ≡ false → search S (suc depth) budget s ≡ row S depth budget s (moves s)
+  pub search-open : (depth budget : ℕ) (s : State) → done s ≡ false → search P (suc depth) budget s ≡ row P depth budget s (moves s)
   unfolding search visit row
   search-open depth budget s e = rw (e, visit)
 
-  pub one-fails : (depth budget : ℕ) (s : State) (m : Move) → next s m ≡ none → one S depth budget s m ≡ no-way budget
+  pub one-fails : (depth budget : ℕ) (s : State) (m : Move) → next s m ≡ none → one P depth budget s m ≡ no-way budget
   unfolding one enter
   one-fails depth budget s m e = rw (e, enter)
 
-  pub one-enters : (depth budget : ℕ) (s : State) (m : Move) (t : State) → next s m ≡ some t → one S depth budget s m ≡ put m (search S depth budget t)
+  pub one-enters : (depth budget : ℕ) (s : State) (m : Move) (t : State) → next s m ≡ some t → one P depth budget s m ≡ put m (search P depth budget t)
   unfolding one enter
   one-enters depth budget s m t e = rw (e, enter)
 
-  pub row-end : (depth budget : ℕ) (s : State) → row S depth budget s [] ≡ no-way budget
+  pub row-end : (depth budget : ℕ) (s : State) → row P depth budget s [] ≡ no-way budget
   unfolding row inTurn
   row-end depth budget s = refl
 
-  pub row-broke : (depth : ℕ) (s : State) (m : Move) (ms : List Move) → row S depth 0 s (m ∷ ms) ≡ ran-out
+  pub row-broke : (depth : ℕ) (s : State) (m : Move) (ms : List Move) → row P depth 0 s (m ∷ ms) ≡ ran-out
   unfolding row inTurn spend
   row-broke depth s m ms = refl
 
   pub row-step : (depth budget : ℕ) (s : State) (m : Move) (ms : List Move)
-      → row S depth (suc budget) s (m ∷ ms) ≡ after (one S depth budget s m) (λ left. row S depth left s ms)
+      → row P depth (suc budget) s (m ∷ ms) ≡ after (one P depth budget s m) (λ left. row P depth left s ms)
   unfolding row inTurn spend one
   row-step depth budget s m ms = refl
 
 -- The same in a loop's own form: the budget is tested and lowered, the depth lowered, and a callee's result is known.
-module _ (S : System) (depth budget : ℕ) where
-  open System S using (State, Move, done, moves, next)
-
-  pub search-row : (s : State) → 0 < depth → done s ≡ false → search S depth budget s ≡ row S (depth - 1) budget s (moves s)
-  search-row s h e = let k : depth ≡ suc (depth - 1) = omega arith in ap (λ (d : ℕ). search S d budget s) k ∙ search-open S (depth - 1) budget s e
-
-  pub search-arrived : (s : State) → 0 < depth → done s ≡ true → search S depth budget s ≡ found [] budget
-  search-arrived s h e = let k : depth ≡ suc (depth - 1) = omega arith in ap (λ (d : ℕ). search S d budget s) k ∙ search-done S (depth - 1) budget s e
+module _ (P : Program) (depth budget : ℕ) where
+  open Program P using (State, Move, done, moves, next)
 
   module _ (s : State) (m : Move) (t : State) (e : next s m ≡ some t) where
-    pub one-found : (p : List Move) (left : ℕ) → search S depth budget t ≡ found p left → one S depth budget s m ≡ found (m ∷ p) left
+    pub one-found : (p : List Move) (left : ℕ) → search P depth budget t ≡ way p left → one P depth budget s m ≡ way (m ∷ p) left
     unfolding put
-    one-found p left f = one-enters S depth budget s m t e ∙ ap (put m) f
+    one-found p left f = one-enters P depth budget s m t e ∙ ap (put m) f
 
-    pub one-no-way : (left : ℕ) → search S depth budget t ≡ no-way left → one S depth budget s m ≡ no-way left
+    pub one-no-way : (left : ℕ) → search P depth budget t ≡ no-way left → one P depth budget s m ≡ no-way left
     unfolding put
-    one-no-way left f = one-enters S depth budget s m t e ∙ ap (put m) f
+    one-no-way left f = one-enters P depth budget s m t e ∙ ap (put m) f
 
-    pub one-ran-out : search S depth budget t ≡ ran-out → one S depth budget s m ≡ ran-out
+    pub one-ran-out : search P depth budget t ≡ ran-out → one P depth budget s m ≡ ran-out
     unfolding put
-    one-ran-out f = one-enters S depth budget s m t e ∙ ap (put m) f
+    one-ran-out f = one-enters P depth budget s m t e ∙ ap (put m) f
 
   module _ (s : State) (m : Move) (ms : List Move) where
-    pub row-no-budget : budget ≡ 0 → row S depth budget s (m ∷ ms) ≡ ran-out
-    row-no-budget e = ap (λ (b : ℕ). row S depth b s (m ∷ ms)) e ∙ row-broke S depth s m ms
+    pub row-no-budget : budget ≡ 0 → row P depth budget s (m ∷ ms) ≡ ran-out
+    row-no-budget e = ap (λ (b : ℕ). row P depth b s (m ∷ ms)) e ∙ row-broke P depth s m ms
 
     -- one try taken from the budget
-    pub row-try : 0 < budget → row S depth budget s (m ∷ ms) ≡ after (one S depth (budget - 1) s m) (λ left. row S depth left s ms)
+    pub row-try : 0 < budget → row P depth budget s (m ∷ ms) ≡ after (one P depth (budget - 1) s m) (λ left. row P depth left s ms)
     row-try h =
         let k : budget ≡ suc (budget - 1) = omega arith in
-        ap (λ (b : ℕ). row S depth b s (m ∷ ms)) k ∙ row-step S depth (budget - 1) s m ms
+        ap (λ (b : ℕ). row P depth b s (m ∷ ms)) k ∙ row-step P depth (budget - 1) s m ms
 
-    pub row-found : (p : List Move) (left : ℕ) → 0 < budget → one S depth (budget - 1) s m ≡ found p left
-        → row S depth budget s (m ∷ ms) ≡ found p left
+    pub row-found : (p : List Move) (left : ℕ) → 0 < budget → one P depth (budget - 1) s m ≡ way p left
+        → row P depth budget s (m ∷ ms) ≡ way p left
     unfolding after
-    row-found p left h f = row-try h ∙ ap (λ (r : Result Move). after r (λ l. row S depth l s ms)) f
+    row-found p left h f = row-try h ∙ ap (λ (r : Result Move). after r (λ l. row P depth l s ms)) f
 
-    pub row-goes-on : (left : ℕ) → 0 < budget → one S depth (budget - 1) s m ≡ no-way left
-        → row S depth budget s (m ∷ ms) ≡ row S depth left s ms
+    pub row-goes-on : (left : ℕ) → 0 < budget → one P depth (budget - 1) s m ≡ no-way left
+        → row P depth budget s (m ∷ ms) ≡ row P depth left s ms
     unfolding after
-    row-goes-on left h f = row-try h ∙ ap (λ (r : Result Move). after r (λ l. row S depth l s ms)) f
+    row-goes-on left h f = row-try h ∙ ap (λ (r : Result Move). after r (λ l. row P depth l s ms)) f
 
-    pub row-runs-out : 0 < budget → one S depth (budget - 1) s m ≡ ran-out → row S depth budget s (m ∷ ms) ≡ ran-out
+    pub row-runs-out : 0 < budget → one P depth (budget - 1) s m ≡ ran-out → row P depth budget s (m ∷ ms) ≡ ran-out
     unfolding after
-    row-runs-out h f = row-try h ∙ ap (λ (r : Result Move). after r (λ l. row S depth l s ms)) f
+    row-runs-out h f = row-try h ∙ ap (λ (r : Result Move). after r (λ l. row P depth l s ms)) f

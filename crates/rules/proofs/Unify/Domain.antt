@@ -3,8 +3,8 @@ use mathlib.Core.Bool.{Bool, true, false, cond, _||_}
 use mathlib.Core.List.{[], _∷_}
 use mathlib.Core.Path.{_≡_, refl, ap₂}
 use Rattle.table.specs.Syntax.{Term, Terms, var, app, nil, _then_, under}
-use Rattle.rules.specs.Substitution.{Variable}
-use Rattle.rules.specs.Unify.{sameVariable, Bindings, replace, solution, occurs, occursAmong}
+use Rattle.rules.specs.Substitution.{Variable, sameVariable}
+use Rattle.rules.specs.Machinery.Unify.{Bindings, replace, solution, occurs, occursAmong}
 use Rattle.rules.proofs.Substitution.{Over, Overs, over-under}
 use Rattle.rules.proofs.Unify.Run.{Within, Each, Hereditary}
 

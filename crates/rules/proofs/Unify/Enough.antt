@@ -6,8 +6,8 @@ use mathlib.Core.Path.{_≡_, refl, _∙_, ap}
 use native.Mathlib.Omega.{arith}
 use Prim.Native.Nat.{ℕ, zero, suc, _+_, _≤_, _<_}
 use Rattle.table.specs.Syntax.{Term, Terms, var, app, nil, _then_}
-use Rattle.rules.specs.Substitution.{Variable}
-use Rattle.rules.specs.Unify.{sameVariable, Binding, Bindings, solution, height, heightAmong, variables, variablesAmong, heightOf, variablesOf, doubled, enough}
+use Rattle.rules.specs.Substitution.{Variable, sameVariable}
+use Rattle.rules.specs.Machinery.Unify.{Binding, Bindings, solution, height, heightAmong, variables, variablesAmong, heightOf, variablesOf, doubled, enough}
 use Rattle.rules.proofs.Substitution.{Over, Overs}
 use Rattle.rules.proofs.Unify.Tests.{same-true, same-refl}
 use Rattle.rules.proofs.Unify.Solution.{Good, isBound}

@@ -4,7 +4,7 @@ use mathlib.Core.Path.{_≡_, refl}
 use Prim.Native.Nat.{ℕ}
 use Rattle.table.specs.Syntax.{Term, Terms, var, app, nil, _then_}
 use Rattle.rules.specs.Substitution.{Variable}
-use Rattle.rules.specs.Unify.{made, clash, circle, unifies}
+use Rattle.rules.specs.Machinery.Unify.{made, clash, circle, unifies}
 use Rattle.rules.proofs.Unify.Opened.{opened}
 
 -- a variable of the question's copy, and one of the clause's

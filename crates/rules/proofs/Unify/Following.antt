@@ -6,8 +6,8 @@ use mathlib.Core.Path.{_≡_, refl, sym, _∙_, ap, subst}
 use native.Mathlib.Omega.{arith}
 use Prim.Native.Nat.{ℕ, zero, suc, _<_}
 use Rattle.table.specs.Syntax.{Term, Terms, var, app, _then_, under, unders}
-use Rattle.rules.specs.Substitution.{Variable, Substitution}
-use Rattle.rules.specs.Unify.{sameVariable, Binding, Bindings, solution, through, follow, occurs, occursAmong}
+use Rattle.rules.specs.Substitution.{Variable, Substitution, sameVariable}
+use Rattle.rules.specs.Machinery.Unify.{Binding, Bindings, solution, through, follow, occurs, occursAmong}
 use Rattle.rules.proofs.Unify.Tests.{or-left, or-right, same-true, same-refl}
 use Rattle.rules.proofs.Unify.Solution.{Satisfies, isBound, Followed, Fresh, Good, solution-satisfies, unbound-solution, followed-more, follow-unbound, follow-stays, follow-solution}
 

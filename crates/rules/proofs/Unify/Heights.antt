@@ -6,8 +6,8 @@ use mathlib.Core.Path.{_≡_, sym, _∙_, ap}
 use native.Mathlib.Omega.{arith}
 use Prim.Native.Nat.{ℕ, zero, suc, _+_, _-_, _≤_, _<_}
 use Rattle.table.specs.Syntax.{Term, Terms, var, app, nil, _then_, under, unders}
-use Rattle.rules.specs.Substitution.{Variable, Substitution}
-use Rattle.rules.specs.Unify.{sameVariable, Bindings, replace, solution, occurs, occursAmong, height, heightAmong, doubled}
+use Rattle.rules.specs.Substitution.{Variable, Substitution, sameVariable}
+use Rattle.rules.specs.Machinery.Unify.{Bindings, replace, solution, occurs, occursAmong, height, heightAmong, doubled}
 use Rattle.rules.proofs.Unify.Tests.{decide, same-true}
 
 mutual

@@ -7,8 +7,8 @@ use mathlib.Core.Path.{_≡_, refl, sym, _∙_, ap, ap₂, subst, fun-ext}
 use native.Mathlib.Omega.{arith}
 use Prim.Native.Nat.{ℕ, suc, _+_, _<_}
 use Rattle.table.specs.Syntax.{Term, Terms, var, app, nil, _then_, arity, under}
-use Rattle.rules.specs.Substitution.{Variable, Pair}
-use Rattle.rules.specs.Unify.{sameVariable, Bindings, solution, follow, occurs, Unified, made, clash, circle, after, unlessOccurs, bind, unlessSame, sameSymbol, ifSame, meetBy, eachBy, compareWithin, enough, unifies, meet, unify, unifyPairs}
+use Rattle.rules.specs.Substitution.{Variable, Pair, sameVariable}
+use Rattle.rules.specs.Machinery.Unify.{Bindings, solution, follow, occurs, Unified, made, clash, circle, after, unlessOccurs, bind, unlessSame, sameSymbol, ifSame, meetBy, eachBy, compareWithin, enough, unifies, meet, unify, unifyPairs}
 use Rattle.rules.proofs.Unify.Tests.{same-refl, differ}
 use Rattle.rules.proofs.Unify.Solution.{Good, isBound, Followed, follow-followed}
 use Rattle.rules.proofs.Unify.Following.{occurs-free}

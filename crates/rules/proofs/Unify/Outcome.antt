@@ -6,7 +6,7 @@ use mathlib.Core.Path.{_≡_, refl, sym, _∙_, ap, ap₂}
 use Prim.Native.Nat.{ℕ, suc}
 use Rattle.table.specs.Syntax.{Term, Terms, var, nil, _then_, under}
 use Rattle.rules.specs.Substitution.{Variable, Substitution, Pair, Solves}
-use Rattle.rules.specs.Unify.{Bindings, solution, occurs, Unified, made, clash, circle, unifies, unify, unifyPairs, enough}
+use Rattle.rules.specs.Machinery.Unify.{Bindings, solution, occurs, Unified, made, clash, circle, unifies, unify, unifyPairs, enough}
 use Rattle.rules.proofs.Unify.Tests.{never, same-refl}
 use Rattle.rules.proofs.Unify.Solution.{Satisfies, Good, isBound, unbound-solution, solution-satisfies}
 use Rattle.rules.proofs.Unify.Run.{Property, Within, Each, Hereditary, Fits, Equation, EqualTerms, EqualArguments, Refuted, Grown, Right, right-same, right-after, unchanged, compare-right}

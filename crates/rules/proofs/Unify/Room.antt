@@ -7,7 +7,7 @@ use native.Mathlib.Omega.{arith}
 use Prim.Native.Nat.{ℕ, suc, _+_, _-_, _*_, _≤_, _<_}
 use Rattle.table.specs.Syntax.{Term, Terms, app, _then_, under, unders}
 use Rattle.rules.specs.Substitution.{Variable}
-use Rattle.rules.specs.Unify.{Bindings, solution, follow, made, unify, height, heightAmong, doubled}
+use Rattle.rules.specs.Machinery.Unify.{Bindings, solution, follow, made, unify, height, heightAmong, doubled}
 use Rattle.rules.proofs.Unify.{unify-answers, unify-within}
 use Rattle.rules.proofs.Unify.Enough.{Scope, scope-parts, scope-over, scope-height, fewBindings}
 use Rattle.rules.proofs.Unify.Heights.{heights-under}

@@ -8,8 +8,8 @@ use mathlib.Core.Path.{_≡_, refl, sym, _∙_, ap, ap₂}
 use native.Mathlib.Omega.{arith}
 use Prim.Native.Nat.{ℕ, zero, suc, _≤_, _<_}
 use Rattle.table.specs.Syntax.{Term, Terms, var, app, nil, _then_, arity, under, unders}
-use Rattle.rules.specs.Substitution.{Variable, Substitution}
-use Rattle.rules.specs.Unify.{sameVariable, Binding, Bindings, solution, through, follow, occurs, Unified, made, clash, circle, after, unlessOccurs, bind, unlessSame, sameSymbol, Compare, ifSame, meetBy, eachBy, compareWithin, height, heightAmong}
+use Rattle.rules.specs.Substitution.{Variable, Substitution, sameVariable}
+use Rattle.rules.specs.Machinery.Unify.{Binding, Bindings, solution, through, follow, occurs, Unified, made, clash, circle, after, unlessOccurs, bind, unlessSame, sameSymbol, Compare, ifSame, meetBy, eachBy, compareWithin, height, heightAmong}
 use Rattle.rules.proofs.Substitution.{arity-unders}
 use Rattle.rules.proofs.Unify.Tests.{and-left, same-true, same-sym, never}
 use Rattle.rules.proofs.Unify.Solution.{Satisfies, Good, Followed, isBound, follow-under, follow-followed, unbound-solution, general-under, solution-satisfies}

@@ -4,8 +4,8 @@ use mathlib.Core.List.{[], _∷_, _++_}
 use Prim.Native.Nat.{ℕ}
 use mathlib.Core.Path.{_≡_, refl, sym, _∙_, ap, ap₂}
 use Rattle.table.specs.Syntax.{Term, Terms, var, app, nil, _then_, under, unders}
-use Rattle.rules.specs.Substitution.{Variable, Substitution}
-use Rattle.rules.specs.Unify.{sameVariable, Binding, Bindings, replace, solution, through, follow, occurs, occursAmong}
+use Rattle.rules.specs.Substitution.{Variable, Substitution, sameVariable}
+use Rattle.rules.specs.Machinery.Unify.{Binding, Bindings, replace, solution, through, follow, occurs, occursAmong}
 use Rattle.rules.proofs.Substitution.{same, under-under}
 use Rattle.rules.proofs.Unify.Tests.{or-left, or-right, same-true, same-refl}
 

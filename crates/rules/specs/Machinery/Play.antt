@@ -1,7 +1,6 @@
 -- Machinery: steps played one by one with the bindings made so far, the checker and the search as programs. No demand is stated by how
 -- they go about it; proofs/Demands.antt shows that they come to the verdicts of specs/Verdict.antt.
 use lib.ListN.{length}
-use mathlib.Core.Bool.{Bool, true, false}
 use mathlib.Core.List.{List, [], _∷_}
 use mathlib.Core.Option.{Option, none, some}
 use Prim.Native.Nat.{ℕ, zero, suc, pred, _+_, _*_, _-_, max}
@@ -9,13 +8,13 @@ use Rattle.words.specs.declared.Step.{Step}
 use Rattle.words.specs.declared.Step.the-variants.{Reduction, Extension, Malformed}
 use Rattle.table.specs.Syntax.{Clause, Table, allClauses}
 use Rattle.rules.specs.Substitution.{Pair}
-use Rattle.rules.specs.Unify.{Bindings, solution, Unified, made, clash, circle, unify}
+use Rattle.rules.specs.Setting.{Setting}
+use Rattle.rules.specs.Machinery.Unify.{Bindings, solution, Unified, made, clash, circle, unify}
 use Rattle.rules.specs.Tableau.{Leaf, Tableau, start, stepped}
-use Rattle.rules.specs.Order.{candidates}
+use Rattle.rules.specs.Order.{allClosed, candidates}
 use Rattle.rules.specs.Answer.{answerWords}
 use Rattle.rules.specs.Verdict.{Refusal, malformed, not-allowed, not-unified, leaves-open, CheckVerdict, accepted, refused, SearchVerdict, finds, finds-none, runs-out}
-use Rattle.rules.specs.System.{System}
-use Rattle.rules.specs.System.Run.{Result, found, no-way, ran-out, search}
+use Rattle.rules.specs.Machinery.Run.{Program, Result, way, no-way, ran-out, search}
 
 pub record Play : Type 0 where
   pub tableau : Tableau
@@ -44,8 +43,8 @@ unfoldable pub performed : Bindings → Option Tableau → Performed
 performed bs none = not-possible
 performed bs (some y) = newest bs y (y .pairs)
 
-unfoldable pub perform : Table → ℕ → Play → Step → Performed
-perform t bound p s = performed (p .bindings) (stepped t bound (p .tableau) s)
+unfoldable pub perform : Setting → Play → Step → Performed
+perform S p s = performed (p .bindings) (stepped S (p .tableau) s)
 
 -- the checker
 pub data Checking : Type 0 where
@@ -67,12 +66,12 @@ onwards not-possible s place next = stopped (refusal s) place
 onwards clashes s place next = stopped not-unified place
 onwards circular s place next = stopped not-unified place
 
-unfoldable pub checkFrom : Table → ℕ → Play → ℕ → List Step → Checking
-checkFrom t bound p place [] = atEnd p place (p .tableau .leaves)
-checkFrom t bound p place (s ∷ ss) = onwards (perform t bound p s) s place (λ q. checkFrom t bound q (suc place) ss)
+unfoldable pub checkFrom : Setting → Play → ℕ → List Step → Checking
+checkFrom S p place [] = atEnd p place (p .tableau .leaves)
+checkFrom S p place (s ∷ ss) = onwards (perform S p s) s place (λ q. checkFrom S q (suc place) ss)
 
-unfoldable pub check : Table → ℕ → List Step → Checking
-check t bound steps = checkFrom t bound (begin t) 0 steps
+unfoldable pub check : Setting → List Step → Checking
+check S steps = checkFrom S (begin (S .table)) 0 steps
 
 unfoldable pub checked : Checking → CheckVerdict
 checked (passed p) = accepted (p .tableau)
@@ -85,18 +84,14 @@ afterwards not-possible = none
 afterwards clashes = none
 afterwards circular = none
 
-unfoldable pub allClosed : List Leaf → Bool
-allClosed [] = true
-allClosed (leaf ∷ rest) = false
-
-abbrev pub plays : Table → ℕ → System
-plays t bound =
+abbrev pub plays : Setting → Program
+plays S =
     record {
       State = Play;
       Move = Step;
       done = λ p. allClosed (p .tableau .leaves);
-      moves = λ p. candidates t bound (p .tableau);
-      next = λ p s. afterwards (perform t bound p s);
+      moves = λ p. candidates S (p .tableau);
+      next = λ p s. afterwards (perform S p s);
     }
 
 -- the most leaves that an extension can add to those that are open, the leaf it closes left out
@@ -105,16 +100,16 @@ mostAdded [] = zero
 mostAdded (c ∷ cs) = max (pred (length (c .literals))) (mostAdded cs)
 
 -- the most steps that can be taken from a tableau
-unfoldable pub stepsLeft : Table → ℕ → Tableau → ℕ
-stepsLeft t bound x = length (x .leaves) + mostAdded (allClauses t) * (bound - x .extensions)
+unfoldable pub stepsLeft : Setting → Tableau → ℕ
+stepsLeft S x = length (x .leaves) + mostAdded (allClauses (S .table)) * (S .bound - x .extensions)
 
 unfoldable pub reported : ℕ → Result Step → SearchVerdict
-reported budget (found steps left) = finds steps (budget - left)
+reported budget (way steps left) = finds steps (budget - left)
 reported budget (no-way left) = finds-none (budget - left)
 reported budget ran-out = runs-out budget
 
-unfoldable pub searchFor : Table → ℕ → ℕ → SearchVerdict
-searchFor t bound budget = reported budget (search (plays t bound) (suc (stepsLeft t bound (start t))) budget (begin t))
+unfoldable pub searchFor : Setting → ℕ → SearchVerdict
+searchFor S budget = reported budget (search (plays S) (suc (stepsLeft S (start (S .table)))) budget (begin (S .table)))
 
 -- the answer of a play that has come to its end
 unfoldable pub answerOf : Table → Play → List ℕ

@@ -1,32 +1,52 @@
--- Machinery that a reader need not believe: the search as a program, with a budget of tries and a depth that is never reached.
+-- Machinery: the search as a program, with a budget of tries and a depth that is never reached.
 -- What it has to do with System.Searched is proved in proofs/System: where the depth is over the size of the state, the depth makes no difference.
+use mathlib.Core.Path.{_≡_}
 use mathlib.Core.Bool.{Bool, true, false}
 use mathlib.Core.Option.{Option, none, some}
 use mathlib.Core.List.{List, [], _∷_}
 use Prim.Native.Nat.{ℕ, zero, suc}
-use Rattle.rules.specs.System.{System}
+use Rattle.rules.specs.System.{System, Ending, found, nothing}
+
+-- A system whose tries are computed: the next state, or none.
+pub record Program : Type 1 where
+  pub State : Type 0
+  pub Move : Type 0
+  pub done : State → Bool
+  pub moves : State → List Move
+  pub next : State → Move → Option State
+
+abbrev pub system : Program → System
+system P =
+    record {
+      State = P .State;
+      Move = P .Move;
+      done = P .done;
+      moves = P .moves;
+      leads = λ s m t. P .next s m ≡ some t;
+      fails = λ s m. P .next s m ≡ none;
+    }
 
 -- A way and the tries left, no way and the tries left, or the tries ran out.
 pub data Result (M : Type 0) : Type 0 where
-  found : List M → ℕ → Result M
+  way : List M → ℕ → Result M
   no-way : ℕ → Result M
   ran-out : Result M
 
 module _ {M : Type 0} where
   -- an outcome with the tries left
-  abbrev pub verdict : Option (List M) → ℕ → Result M
-  verdict (some p) left = found p left
-  verdict none left = no-way left
+  abbrev pub verdict : Ending M → ℕ → Result M
+  verdict (found p) left = way p left
+  verdict nothing left = no-way left
 
   -- the same result one move further up
   unfoldable pub put : M → Result M → Result M
-  put m (found p left) = found (m ∷ p) left
+  put m (way p left) = way (m ∷ p) left
   put m (no-way left) = no-way left
   put m ran-out = ran-out
 
   -- where there is no way, go on with the tries left
   unfoldable pub after : Result M → (ℕ → Result M) → Result M
-  after (found p left) rest = found p left
+  after (way p left) rest = way p left
   after (no-way left) rest = rest left
   after ran-out rest = ran-out
 
@@ -35,8 +55,8 @@ module _ {M : Type 0} where
   spend zero rest = ran-out
   spend (suc left) rest = rest left
 
-module _ (S : System) where
-  open System S using (State, Move, done, moves, next)
+module _ (P : Program) where
+  open Program P using (State, Move, done, moves, next)
 
   module _ (below : ℕ → State → Result Move) where
     -- a move that was tried: on from the next state, if there is one
@@ -50,7 +70,7 @@ module _ (S : System) where
     inTurn budget s (m ∷ ms) = spend budget (λ left. after (enter left m (next s m)) (λ rest. inTurn rest s ms))
 
     unfoldable pub visit : Bool → ℕ → State → Result Move
-    visit true budget s = found [] budget
+    visit true budget s = way [] budget
     visit false budget s = inTurn budget s (moves s)
 
   -- The search from a state to a depth with a budget.

@@ -5,10 +5,7 @@ use mathlib.Core.Bool.{Bool, true, false, cond, _&&_, _||_}
 use mathlib.Core.List.{List, [], _∷_, _++_}
 use Prim.Native.Nat.{ℕ, zero, suc, _+_, max}
 use Rattle.table.specs.Syntax.{Term, Terms, var, app, nil, _then_, arity, under}
-use Rattle.rules.specs.Substitution.{Variable, Substitution, Pair}
-
-abbrev pub sameVariable : Variable → Variable → Bool
-sameVariable x y = eqb (x .copy) (y .copy) && eqb (x .number) (y .number)
+use Rattle.rules.specs.Substitution.{Variable, sameVariable, Substitution, Pair}
 
 pub record Binding : Type 0 where
   pub variable : Variable
