@@ -6,7 +6,7 @@ use native.Mathlib.Decide.{decLt}
 use native.Mathlib.Omega.{arith}
 use lib.ListN.{length, getD, set, length-set}
 use lib.Seq.{getD-set-same, getD-set-other}
-use Rattle.rules.specs.Play.{Play}
+use Rattle.rules.specs.Machinery.Play.{Play}
 use Rattle.rules.specs.Tableau.{Leaf}
 use Rattle.rules.proofs.Unify.Tests.{never}
 use Rattle.rules.proofs.Unify.Solution as bindings

@@ -8,14 +8,14 @@ use lib.ListN.{length, take, drop, getD}
 use lib.Seq.{drop-cons}
 use Rattle.words.specs.Steps.{stepWord}
 use Rattle.words.specs.declared.Step.{Step}
-use Rattle.rules.specs.System.Run.{Result, found, no-way, search, one}
-use Rattle.rules.specs.Play.{Play, Performed, goes-on, perform, afterwards, onwards, checkFrom, plays}
+use Rattle.rules.specs.Machinery.Run.{Result, no-way, search, one}
+use Rattle.rules.specs.Machinery.Play.{Play, Performed, goes-on, perform, afterwards, onwards, checkFrom, plays}
 use Rattle.rules.proofs.System.Steps.{one-fails, one-found, one-no-way, one-ran-out}
 use Rattle.unification.specs.State.{copiesOf, countOf}
 use Rattle.unification.specs.Good.{Good, Undone}
 use Rattle.tableaux.specs.Ready.{Stands, Later}
 use Rattle.engine.specs.Performing.{Comes}
-use Rattle.engine.specs.Searching.{without, tableAt, questionAt, roomAt, Treats, stepBy, Onward, Takes, Restored, Again, Noting, Finds, Leaves, Tells, Treated, Attempted}
+use Rattle.engine.specs.Searching.{without, settingAt, questionAt, roomAt, Treats, stepBy, Onward, Takes, Restored, Again, Noting, Finds, Leaves, Tells, Treated, Attempted}
 use Rattle.engine.specs.declared.search.Ending.{Ending}
 use Rattle.engine.specs.declared.search.Ending.the-variants.{Found, Nothing, Out}
 use Rattle.engine.specs.declared.search.Move.{Move}
@@ -73,7 +73,7 @@ module _ {f m m₁ : List ℕ} {task : Task} {place : Place} (treats : Treats f 
         (record {
           leaves = back (takes .later) ec es restored;
           within = omega arith;
-          tells = λ p stands depth enough. one-fails (plays (tableAt f task) (task .bound)) depth left p (stepBy candidate)
+          tells = λ p stands depth enough. one-fails (plays (settingAt f task)) depth left p (stepBy candidate)
               (comes-nowhere f m₁ (questionAt f task) (taken .place) (taken .meeting) _ failed (takes .comes p stands));
         })
 
@@ -92,13 +92,13 @@ module _ {f m m₁ : List ℕ} {task : Task} {place : Place} (treats : Treats f 
       few-steps = omega (arith, treats .ready .taken, treats .ready .room, treats .ready .good .copies)
 
       abbrev below : ℕ → Play → Result Step
-      below depth q = search (plays (tableAt f task) (task .bound)) depth left q
+      below depth q = search (plays (settingAt f task)) depth left q
 
       module _ (p : Play) (stands : Stands f m (questionAt f task) place (p .tableau) (p .bindings)) (depth : ℕ) (enough : roomAt f m task place ≤ depth) where
-        next : (q : Play) × (perform (tableAt f task) (task .bound) p (stepBy candidate) ≡ goes-on q) × Stands f m₁ (questionAt f task) (taken .place) (q .tableau) (q .bindings)
+        next : (q : Play) × (perform (settingAt f task) p (stepBy candidate) ≡ goes-on q) × Stands f m₁ (questionAt f task) (taken .place) (q .tableau) (q .bindings)
         next = comes-on f m₁ (questionAt f task) (taken .place) (taken .meeting) _ met (takes .comes p stands)
 
-        leads : afterwards (perform (tableAt f task) (task .bound) p (stepBy candidate)) ≡ some (next .0)
+        leads : afterwards (perform (settingAt f task) p (stepBy candidate)) ≡ some (next .0)
         leads = goes-some _ (next .0) (next .1)
 
         told : Tells (r .ending) f m₂ task (taken .place) r (next .0) (below depth (next .0))
@@ -107,8 +107,8 @@ module _ {f m m₁ : List ℕ} {task : Task} {place : Place} (treats : Treats f 
             rw deep at (treated .tells (next .0) (next .2) (depth - 1) (omega (arith, onward .falls)))
 
       -- what was found below is found here, a step earlier
-      found-here : Noting f m₁ m₂ (taken .place) r → (p q : Play) → perform (tableAt f task) (task .bound) p (stepBy candidate) ≡ goes-on q → (depth : ℕ)
-          → Finds f m₂ task (taken .place) r q (below depth q) → Finds f m₂ task place r p (one (plays (tableAt f task) (task .bound)) depth left p (stepBy candidate))
+      found-here : Noting f m₁ m₂ (taken .place) r → (p q : Play) → perform (settingAt f task) p (stepBy candidate) ≡ goes-on q → (depth : ℕ)
+          → Finds f m₂ task (taken .place) r q (below depth q) → Finds f m₂ task place r p (one (plays (settingAt f task)) depth left p (stepBy candidate))
       unfolding checkFrom onwards
       found-here noting p q e depth h =
           let n = onward .steps in
@@ -120,7 +120,7 @@ module _ {f m m₁ : List ℕ} {task : Task} {place : Place} (treats : Treats f 
           record {
             path = stepBy candidate ∷ h .path;
             play = h .play;
-            says = one-found (plays (tableAt f task) (task .bound)) depth left p (stepBy candidate) q (goes-some _ q e) (h .path) (r .left) (h .says);
+            says = one-found (plays (settingAt f task)) depth left p (stepBy candidate) q (goes-some _ q e) (h .path) (r .left) (h .says);
             passes = λ at. rw e (h .passes (suc at));
             bindings = h .bindings;
             questions = h .questions;
@@ -145,11 +145,11 @@ module _ {f m m₁ : List ℕ} {task : Task} {place : Place} (treats : Treats f 
           left-so Nothing s l = absurd (s refl)
           left-so Out s l = tt
 
-          go : (e : Ending) → (e ≡ Nothing → ⊥) → Leaves e f m₁ m₂ (taken .place) r → (p q : Play) → perform (tableAt f task) (task .bound) p (stepBy candidate) ≡ goes-on q → (depth : ℕ)
-              → Tells e f m₂ task (taken .place) r q (below depth q) → Tells e f m₂ task place r p (one (plays (tableAt f task) (task .bound)) depth left p (stepBy candidate))
+          go : (e : Ending) → (e ≡ Nothing → ⊥) → Leaves e f m₁ m₂ (taken .place) r → (p q : Play) → perform (settingAt f task) p (stepBy candidate) ≡ goes-on q → (depth : ℕ)
+              → Tells e f m₂ task (taken .place) r q (below depth q) → Tells e f m₂ task place r p (one (plays (settingAt f task)) depth left p (stepBy candidate))
           go Found s l p q e depth h = found-here l p q e depth h
           go Nothing s l p q e depth h = absurd (s refl)
-          go Out s l p q e depth h = one-ran-out (plays (tableAt f task) (task .bound)) depth left p (stepBy candidate) q (goes-some _ q e) h
+          go Out s l p q e depth h = one-ran-out (plays (settingAt f task)) depth left p (stepBy candidate) q (goes-some _ q e) h
 
       module _ (nothing : r .ending ≡ Nothing) where
         again : Again f m₁ m₂ (taken .place)
@@ -172,5 +172,5 @@ module _ {f m m₁ : List ℕ} {task : Task} {place : Place} (treats : Treats f 
               tells = λ p stands depth enough.
                   let q = next p stands depth enough in
                   let said : below depth (q .0) ≡ no-way (r .left) = nothing-told f m₂ task (taken .place) r (q .0) (below depth (q .0)) (r .ending) nothing (told p stands depth enough) in
-                  tell-nothing f m₃ task place r p _ (r .ending) nothing (one-no-way (plays (tableAt f task) (task .bound)) depth left p (stepBy candidate) (q .0) (leads p stands depth enough) (r .left) said);
+                  tell-nothing f m₃ task place r p _ (r .ending) nothing (one-no-way (plays (settingAt f task)) depth left p (stepBy candidate) (q .0) (leads p stands depth enough) (r .left) said);
             }

@@ -10,9 +10,10 @@ use Rattle.words.specs.Steps.{stepOf}
 use Rattle.table.specs.File.{judge, tableIn}
 use Rattle.table.proofs.AcceptedTable.{body-readable, question-start}
 use Rattle.table.proofs.Terms.{from-place}
+use Rattle.rules.specs.Setting.{base}
 use Rattle.rules.specs.Tableau.{start}
 use Rattle.rules.specs.Verdict.{malformed, not-allowed, not-unified, leaves-open}
-use Rattle.rules.specs.Play.{Play, begin, Performed, perform, atEnd, onwards, checkFrom, check}
+use Rattle.rules.specs.Machinery.Play.{Play, begin, Performed, perform, atEnd, onwards, checkFrom, check}
 use Rattle.unification.specs.State.{markAt, ClauseAt, bindingsOf}
 use Rattle.tableaux.specs.Leaves.{leafAt, questionsAmong}
 use Rattle.unification.specs.State.{nextAt}
@@ -33,7 +34,7 @@ pub record Running (f m : List ℕ) (bound : ℕ) (offered : List ℕ) (place : 
   pub within : i ≤ length offered
   pub play : Play
   pub stands : PlayAt f m place play
-  pub same : check (tableIn f) bound (map stepOf offered) ≡ checkFrom (tableIn f) bound play i (map stepOf (drop i offered))
+  pub same : check (base (tableIn f) bound) (map stepOf offered) ≡ checkFrom (base (tableIn f) bound) play i (map stepOf (drop i offered))
 
 -- the start
 module _ (f : List ℕ) (accepts : judge f .status ≡ 0) where
@@ -64,10 +65,10 @@ module _ (f : List ℕ) (accepts : judge f .status ≡ 0) where
 module _ {f m : List ℕ} {bound : ℕ} {offered : List ℕ} {place : Place} {i : ℕ} (g : Running f m bound offered place i) where
   module _ (h : i < length offered) where
     abbrev outcome : Performed
-    outcome = perform (tableIn f) bound (g .play) (stepOf (getD offered i 0))
+    outcome = perform (base (tableIn f) bound) (g .play) (stepOf (getD offered i 0))
 
-    same-step : check (tableIn f) bound (map stepOf offered)
-        ≡ onwards outcome (stepOf (getD offered i 0)) i (λ q. checkFrom (tableIn f) bound q (suc i) (map stepOf (drop (i + 1) offered)))
+    same-step : check (base (tableIn f) bound) (map stepOf offered)
+        ≡ onwards outcome (stepOf (getD offered i 0)) i (λ q. checkFrom (base (tableIn f) bound) q (suc i) (map stepOf (drop (i + 1) offered)))
     unfolding checkFrom
     same-step = g .same ∙ rw (from-place offered i h)
 
@@ -104,7 +105,7 @@ module _ {f m : List ℕ} {bound : ℕ} {offered : List ℕ} {place : Place} {i 
     all : i ≡ length offered
     all = omega (arith, g .within)
 
-    same-end : check (tableIn f) bound (map stepOf offered) ≡ atEnd (g .play) i (openLeaves f m place)
+    same-end : check (base (tableIn f) bound) (map stepOf offered) ≡ atEnd (g .play) i (openLeaves f m place)
     unfolding checkFrom
     same-end = g .same ∙ rw (drop-of-length-le offered {i = i} h, ← g .stands .leaves)
 

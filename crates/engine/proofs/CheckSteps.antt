@@ -18,10 +18,11 @@ use Rattle.table.specs.Syntax.{Literal, literalUnder, Clause, Table, allClauses
 use Rattle.table.specs.Decode.{clauseOf}
 use Rattle.table.specs.File.{bodyOf, judge, tableIn}
 use Rattle.table.proofs.AcceptedTable.{body-readable, question-start}
+use Rattle.rules.specs.Setting.{base}
 use Rattle.rules.specs.Substitution.{Variable}
 use Rattle.rules.specs.Tableau.{fresh, copyOf, fits, Leaf, Tableau, ancestor, reduced, entered, extended, treated, stepped}
 use Rattle.rules.specs.Verdict.{not-allowed}
-use Rattle.rules.specs.Play.{Play, Performed, not-possible, performed, perform, refusal}
+use Rattle.rules.specs.Machinery.Play.{Play, Performed, not-possible, performed, perform, refusal}
 use Rattle.rules.proofs.Lists.{none-some, map-some}
 use Rattle.unification.specs.State.{copiesOf, literalAt, parentAt, nextAt, ownWords, literalAtReference}
 use Rattle.unification.specs.Good.{wordAt, Inside, LiteralStands}
@@ -90,34 +91,34 @@ absent h (x ∷ xs) zero e = absurd (none-some (sym e))
 absent h (x ∷ xs) (suc j) e = absent h xs j e
 
 module _ (t : Table) (bound : ℕ) (x : Tableau) where
-  closed-none : (s : Step) → x .leaves ≡ [] → stepped t bound x s ≡ none
+  closed-none : (s : Step) → x .leaves ≡ [] → stepped (base t bound) x s ≡ none
   unfolding stepped treated
   closed-none s e = rw e
 
-  treated-none : (ls : List Leaf) → treated t bound x ls step.Malformed ≡ none
+  treated-none : (ls : List Leaf) → treated (base t bound) x ls step.Malformed ≡ none
   unfolding treated
   treated-none [] = refl
   treated-none (leaf ∷ rest) = refl
 
-  malformed-none : stepped t bound x step.Malformed ≡ none
+  malformed-none : stepped (base t bound) x step.Malformed ≡ none
   unfolding stepped
   malformed-none = treated-none (x .leaves)
 
   module _ (leaf : Leaf) (rest : List Leaf) (l : x .leaves ≡ leaf ∷ rest) where
-    reduction-none : (height : ℕ) → ancestor height (leaf .branch) ≡ none → stepped t bound x (step.Reduction height) ≡ none
+    reduction-none : (height : ℕ) → ancestor height (leaf .branch) ≡ none → stepped (base t bound) x (step.Reduction height) ≡ none
     unfolding stepped treated reduced
     reduction-none height a = rw (l, a)
 
-    reduction-unfit : (height : ℕ) {m : Literal Variable} → ancestor height (leaf .branch) ≡ some m → fits (leaf .literal) m ≡ false → stepped t bound x (step.Reduction height) ≡ none
+    reduction-unfit : (height : ℕ) {m : Literal Variable} → ancestor height (leaf .branch) ≡ some m → fits (leaf .literal) m ≡ false → stepped (base t bound) x (step.Reduction height) ≡ none
     unfolding stepped treated reduced
     reduction-unfit height a f = rw (l, a, f)
 
-    extension-over : (i j : ℕ) → bound ≤ x .extensions → stepped t bound x (step.Extension i j) ≡ none
+    extension-over : (i j : ℕ) → bound ≤ x .extensions → stepped (base t bound) x (step.Extension i j) ≡ none
     unfolding stepped treated
     extension-over i j h = rw (l, le-ltb (x .extensions) bound h)
 
     extension-unfit : (i j : ℕ) {clause : Clause} {m : Literal Variable} → getElem? (allClauses t) i ≡ some clause
-        → getElem? (copyOf (suc (x .extensions)) clause) j ≡ some m → fits (leaf .literal) m ≡ false → stepped t bound x (step.Extension i j) ≡ none
+        → getElem? (copyOf (suc (x .extensions)) clause) j ≡ some m → fits (leaf .literal) m ≡ false → stepped (base t bound) x (step.Extension i j) ≡ none
     unfolding stepped treated extended entered
     extension-unfit i j c a f = rw l (within-none (ltb (x .extensions) bound) _ (rw (c, a, f)))
 
@@ -126,13 +127,13 @@ module _ (t : Table) (bound : ℕ) (x : Tableau) where
     extended-none i j none h = refl
     extended-none i j (some c) h = rw (absent (literalUnder (fresh (suc (x .extensions)))) (c .literals) j (h c refl))
 
-    extension-none : (i j : ℕ) → ((c : Clause) → getElem? (allClauses t) i ≡ some c → getElem? (c .literals) j ≡ none) → stepped t bound x (step.Extension i j) ≡ none
+    extension-none : (i j : ℕ) → ((c : Clause) → getElem? (allClauses t) i ≡ some c → getElem? (c .literals) j ≡ none) → stepped (base t bound) x (step.Extension i j) ≡ none
     unfolding stepped treated
     extension-none i j h =
-        ap (λ (ls : List Leaf). treated t bound x ls (step.Extension i j)) l
+        ap (λ (ls : List Leaf). treated (base t bound) x ls (step.Extension i j)) l
         ∙ within-none (ltb (x .extensions) bound) _ (extended-none i j (getElem? (allClauses t) i) h)
 
-impossible : (t : Table) (bound : ℕ) (p : Play) (s : Step) → stepped t bound (p .tableau) s ≡ none → perform t bound p s ≡ not-possible
+impossible : (t : Table) (bound : ℕ) (p : Play) (s : Step) → stepped (base t bound) (p .tableau) s ≡ none → perform (base t bound) p s ≡ not-possible
 unfolding perform performed
 impossible t bound p s e = rw e
 
@@ -142,7 +143,7 @@ module _ {f m : List ℕ} {place : Place} (bound word : ℕ) where
   malformed-judged e =
       record { moves = tt; says = λ p s. rw (← e) (impossible (tableIn f) bound p step.Malformed (malformed-none (tableIn f) bound (p .tableau)), refl) }
 
-  unallowed : refusal (stepOf word) ≡ not-allowed → ((p : Play) → PlayAt f m place p → stepped (tableIn f) bound (p .tableau) (stepOf word) ≡ none)
+  unallowed : refusal (stepOf word) ≡ not-allowed → ((p : Play) → PlayAt f m place p → stepped (base (tableIn f) bound) (p .tableau) (stepOf word) ≡ none)
       → Checked f m m bound place word NotAllowed
   unallowed r h = record { moves = tt; says = λ p s. (impossible (tableIn f) bound p (stepOf word) (h p s), r) }
 
@@ -164,10 +165,10 @@ judged-moves f m m′ place next Circle h = tt
 
 module _ {f m m′ : List ℕ} {place next : Place} where
   judged : (bound word : ℕ) (meeting : Meeting) {j : Judged} → j ≡ judgedBy meeting next → (meeting ≡ Made → Moved f m m′ place next)
-      → ((p : Play) → PlayAt f m place p → Comes f m′ (judge f .question) next meeting (perform (tableIn f) bound p (stepOf word)))
+      → ((p : Play) → PlayAt f m place p → Comes f m′ (judge f .question) next meeting (perform (base (tableIn f) bound) p (stepOf word)))
       → Checked f m m′ bound place word j
   judged bound word meeting e h c =
-      rw e (record { moves = judged-moves f m m′ place next meeting h; says = λ p s. judged-says f m′ next (stepOf word) (perform (tableIn f) bound p (stepOf word)) meeting (c p s) })
+      rw e (record { moves = judged-moves f m m′ place next meeting h; says = λ p s. judged-says f m′ next (stepOf word) (perform (base (tableIn f) bound) p (stepOf word)) meeting (c p s) })
 
 -- the leftmost leaf, and the ancestor at a height by the references from the leaf up
 module _ {f m : List ℕ} {place : Place} (ready : Ready f m place) (n : place .head ≡ 0 → ⊥) where

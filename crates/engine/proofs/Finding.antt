@@ -9,9 +9,10 @@ use Rattle.table.specs.Body.{lastOf, starts}
 use Rattle.table.specs.File.{judge, tableIn}
 use Rattle.table.specs.Syntax.{Clause}
 use Rattle.table.proofs.Accepted.{accepted}
-use Rattle.table.proofs.AcceptedTable.{words-each, body-readable, question-start, accepted-within}
-use Rattle.rules.specs.Play.{begin, check, plays, reported, searchFor}
-use Rattle.rules.specs.System.Run.{search}
+use Rattle.table.proofs.AcceptedTable.{body-readable, question-start, accepted-within}
+use Rattle.rules.specs.Setting.{base}
+use Rattle.rules.specs.Machinery.Play.{begin, check, plays, reported, searchFor}
+use Rattle.rules.specs.Machinery.Run.{search}
 use Rattle.rules.specs.Tableau.{start, hang, copyOf}
 use Rattle.rules.proofs.Search.{any-depth-says, at-most-199-left}
 use Rattle.engine.specs.Ended as ended
@@ -89,16 +90,16 @@ module _ (f : List ℕ) (z : judge f .status ≡ 0) {question : ℕ} (eq : quest
       stands : Stands f m (questionAt f task) place (begin (tableIn f) .tableau) (begin (tableIn f) .bindings)
       stands = rw question-last at (begun-stands begun)
 
-      deep : (budget : ℕ) → searchFor (tableIn f) bound budget ≡ reported budget (search (plays (tableIn f) bound) 200 budget (begin (tableIn f)))
+      deep : (budget : ℕ) → searchFor (base (tableIn f) bound) budget ≡ reported budget (search (plays (base (tableIn f) bound)) 200 budget (begin (tableIn f)))
       deep budget =
-          any-depth-says (tableIn f) bound 200 budget (omega (arith, at-most-199-left (tableIn f) (accepted-within f z (words-each f small)) bound low))
+          any-depth-says (base (tableIn f) bound) 200 budget (omega (arith, at-most-199-left (base (tableIn f) bound) (accepted-within f z) low))
 
       module _ {m′ : List ℕ} {budget : ℕ} {r : Searched} (treated : Treated f m m′ task place budget r) where
         pub find-ends : Ends (r .ending) f m′ question bound budget r
         unfolding reported check
         find-ends = go (r .ending) (treated .leaves) (treated .tells (begin (tableIn f)) stands 199 enough)
           where
-            go : (e : Ending) → Leaves e f m m′ place r → Tells e f m′ task place r (begin (tableIn f)) (search (plays (tableIn f) bound) 200 budget (begin (tableIn f)))
+            go : (e : Ending) → Leaves e f m m′ place r → Tells e f m′ task place r (begin (tableIn f)) (search (plays (base (tableIn f) bound)) 200 budget (begin (tableIn f)))
                 → Ends e f m′ question bound budget r
             go Found l h =
                 let steps : r .steps ≡ length (h .path) = omega (arith, h .count, begun .steps) in

@@ -1,7 +1,7 @@
 -- An answer's words, numbered as they are met, are the rules' answer: as many as its items, whatever the numbering.
 use lib.ListN.{length}
 use mathlib.Core.Bool.{Bool, true, false, cond}
-use mathlib.Core.List.{List, [], _∷_, _++_, map, append-assoc}
+use mathlib.Core.List.{List, [], _∷_, _++_, map, append-assoc, map-append}
 use mathlib.Core.Path.{_≡_, refl, sym, _∙_, ap, ap₂}
 use native.Mathlib.Nat.{zero-add, suc-add}
 use native.Mathlib.Omega.{arith}
@@ -10,10 +10,8 @@ use Rattle.words.specs.Fields.{variableWord, functionWord, literalWord}
 use Rattle.table.specs.Syntax.{Term, Terms, var, app, nil, _then_, under, unders, Literal, literalUnder}
 use Rattle.table.specs.Encode.{termWords, termsWords, literalWords, literalsWords}
 use Rattle.table.specs.Decode.{first, rest}
-use Rattle.rules.specs.Substitution.{Variable}
-use Rattle.rules.specs.Unify.{sameVariable}
+use Rattle.rules.specs.Substitution.{Variable, sameVariable}
 use Rattle.rules.specs.Answer.{occurring, occurringIn, occurringAll, seen, firstsAfter, firsts, placeOf, numbered}
-use Rattle.rules.proofs.Every.{map-append}
 use Rattle.rules.proofs.Unify.Tests.{never, same-refl}
 use Rattle.engine.specs.Writing.{Item, fixed, free, itemsOf, itemsAmong, itemsOfAll, also, wordsFrom, seenAfter}
 use Rattle.unification.proofs.TermLists.{arity-under, first-nil}

@@ -7,7 +7,7 @@ use Prim.Native.Nat.{ℕ, zero, suc, _+_, _≤_, _<_}
 use Rattle.table.specs.Syntax.{Terms, under, unders}
 use Rattle.table.specs.Decode.{first}
 use Rattle.rules.specs.Substitution.{Variable, Substitution}
-use Rattle.rules.specs.Unify.{solution}
+use Rattle.rules.specs.Machinery.Unify.{solution}
 use Rattle.unification.specs.State.{copiesOf, countOf}
 use Rattle.tableaux.specs.Leaves.{questionsAmong}
 use Rattle.unification.specs.Good.{Same, Good, Ahead}

@@ -16,10 +16,11 @@ use Rattle.words.specs.declared.Step.the-variants.{Reduction}
 use Rattle.table.specs.Syntax.{Literal, Clause, Table}
 use Rattle.table.specs.Reading.{fault}
 use Rattle.table.specs.Decode.{clauseOf}
+use Rattle.rules.specs.Setting.{base}
 use Rattle.rules.specs.Substitution.{Variable}
 use Rattle.rules.specs.Tableau.{Leaf, Tableau, atom, fits, ancestor, closing, copyOf, hang, questionsWith, afterReduction, fresh, stepped}
-use Rattle.rules.specs.Unify.{Unified, made, unify}
-use Rattle.rules.specs.Play.{Play, boundBy, newest, performed, perform}
+use Rattle.rules.specs.Machinery.Unify.{Unified, made, unify}
+use Rattle.rules.specs.Machinery.Play.{Play, boundBy, newest, performed, perform}
 use Rattle.rules.proofs.Steps.{reduces, extends, done, afterEntry}
 use Rattle.unification.specs.State.{startAt, copiesOf, nextAt, ownWords, wordsAt, literalAtReference, bound}
 use Rattle.unification.specs.Good.{wordAt, Inside, LiteralStands, Good, Outcome}
@@ -69,8 +70,8 @@ questions-same m m′ question (suc n) s = rw (s n (omega arith), questions-same
 
 -- the newest pair decides
 module _ (t : Table) (limit : ℕ) (p : Play) (s : Step) where
-  performs : {y : Tableau} (l n : Literal Variable) → stepped t limit (p .tableau) s ≡ some y → y .pairs ≡ closing l n ∷ p .tableau .pairs
-      → perform t limit p s ≡ boundBy y (unify (p .bindings) (atom l) (atom n))
+  performs : {y : Tableau} (l n : Literal Variable) → stepped (base t limit) (p .tableau) s ≡ some y → y .pairs ≡ closing l n ∷ p .tableau .pairs
+      → perform (base t limit) p s ≡ boundBy y (unify (p .bindings) (atom l) (atom n))
   unfolding perform performed newest closing
   performs l n e h = rw (e, h)
 
@@ -189,7 +190,7 @@ module _ (t : Table) (limit : ℕ) {f m m′ : List ℕ} {question : ℕ} {place
               ∙ ap (questionsAmong m′ question) (sym (reduced .copies));
         }
 
-    pub reduction-comes : Comes f m′ question (r .place) (r .meeting) (perform t limit p (Reduction height))
+    pub reduction-comes : Comes f m′ question (r .place) (r .meeting) (perform (base t limit) p (Reduction height))
     reduction-comes =
         rw (performs t limit p (Reduction height) {y = after} (leaf .literal) (literalAtReference f m other) (done (reduces (stands .leaves ∙ open-first ready some-open) there fitting refl)) refl, stands .bindings)
         (comes f m′ question (r .place) (r .meeting) _ (reduced .outcome) after (λ _. reduction-stands))
@@ -231,10 +232,10 @@ module _ (t : Table) (limit : ℕ) {f m m′ : List ℕ} {question : ℕ} {place
           questions = rw (copy-number, stands .questions) asked;
         }
 
-    pub extension-comes : Comes f m′ question (r .place) (r .meeting) (perform t limit p (extensionAt scan))
+    pub extension-comes : Comes f m′ question (r .place) (r .meeting) (perform (base t limit) p (extensionAt scan))
     extension-comes =
         let literal : getElem? (copyOf (suc (p .tableau .extensions)) clause) (scan .literals) ≡ some (literalAtReference f m′ reference) =
         rw copy-number (copy-entered (enters .begins) m′ (copiesOf m) (extended .starts) (scan .literals) (enters .offset)) in
         let low : p .tableau .extensions < limit = omega (arith, copy-number) in
-        rw (performs t limit p (extensionAt scan) {y = grown} (treated .literal) (literalAtReference f m′ reference) (done (extends (stands .leaves ∙ open-first ready some-open) low (enters .clause) literal fitting refl)) refl, stands .bindings)
+        rw (performs t limit p (extensionAt scan) {y = grown} (treated .literal) (literalAtReference f m′ reference) (done (extends (stands .leaves ∙ open-first ready some-open) (refl, low) (enters .clause) literal fitting refl)) refl, stands .bindings)
         (comes f m′ question (r .place) (r .meeting) _ (extended .outcome) grown (λ e. extension-stands (extended .hung e)))

@@ -3,7 +3,7 @@ use borrow.Author.Tests.{eq-eqb, ne-eqb, eqb-true, eqb-false}
 use lib.Dec.{eqb}
 use lib.ListN.{length, drop, length-append}
 use mathlib.Core.Bool.{Bool, true, false, cond}
-use mathlib.Core.List.{List, [], _∷_, _++_, map, append-assoc, append-nil}
+use mathlib.Core.List.{List, [], _∷_, _++_, map, append-assoc, append-nil, map-append}
 use mathlib.Core.Path.{_≡_, refl, sym, _∙_, ap, ap₂}
 use native.Mathlib.Omega.{arith}
 use Prim.Native.Nat.{ℕ, zero, suc, _+_, _≤_}
@@ -11,11 +11,10 @@ use Rattle.words.specs.Fields.{literalWord}
 use Rattle.table.specs.Syntax.{arity, Literal, Table}
 use Rattle.table.specs.Decode.{clauseOf}
 use Rattle.rules.specs.Substitution.{Variable}
-use Rattle.rules.specs.Unify.{Bindings, solution}
+use Rattle.rules.specs.Machinery.Unify.{Bindings, solution}
 use Rattle.rules.specs.Tableau.{Tableau}
-use Rattle.rules.specs.Play.{Play, answerOf}
+use Rattle.rules.specs.Machinery.Play.{Play, answerOf}
 use Rattle.rules.specs.Answer.{disjunct, disjuncts, joined, answerWords}
-use Rattle.rules.proofs.Every.{map-append}
 use Rattle.rules.proofs.Unify.Tests.{decide}
 use Rattle.unification.specs.State.{startAt, copiesOf, ownWords, ClauseAt, bound}
 use Rattle.tableaux.specs.Leaves.{questionsAmong}

@@ -5,12 +5,11 @@ use Prim.Native.Nat.{ℕ, zero, suc, _+_, _-_, _≤_}
 use native.Mathlib.Omega.{arith}
 use lib.ListN.{length}
 use Rattle.words.specs.declared.Step.{Step}
-use Rattle.rules.specs.System.{System}
-use Rattle.rules.specs.System.Run.{Result, found, no-way, ran-out, after, spend, inTurn, one, row}
-use Rattle.rules.specs.Play.{Play, plays}
+use Rattle.rules.specs.Machinery.Run.{Program, Result, way, no-way, ran-out, after, spend, inTurn, one, row}
+use Rattle.rules.specs.Machinery.Play.{Play, plays}
 use Rattle.rules.proofs.System.Steps.{row-end, row-step, row-no-budget, row-found, row-goes-on, row-runs-out}
 use Rattle.tableaux.specs.Ready.{openLeaves, Ready, Stands}
-use Rattle.engine.specs.Searching.{without, tableAt, questionAt, roomAt, Treats, stepBy, Again, Finds, Leaves, Tells, Attempted, Rowed}
+use Rattle.engine.specs.Searching.{without, settingAt, questionAt, roomAt, Treats, stepBy, Again, Finds, Leaves, Tells, Attempted, Rowed}
 use Rattle.engine.specs.declared.search.Ending.{Ending}
 use Rattle.engine.specs.declared.search.Ending.the-variants.{Found, Nothing, Out}
 use Rattle.engine.specs.declared.search.Move.{Move}
@@ -20,11 +19,11 @@ use Rattle.tableaux.specs.declared.tableau.Place.{Place}
 use Rattle.engine.proofs.Again.{open-stays, ready-again, stands-again, again-none, again-then}
 
 -- a row, and another after it
-module _ (S : System) (depth : ℕ) (s : S .State) where
+module _ (S : Program) (depth : ℕ) (s : S .State) where
   further : (a : Result (S .Move)) (xs ys : List (S .Move)) → ((budget : ℕ) → row S depth budget s (xs ++ ys) ≡ after (row S depth budget s xs) (λ left. row S depth left s ys))
       → after a (λ left. row S depth left s (xs ++ ys)) ≡ after (after a (λ left. row S depth left s xs)) (λ left. row S depth left s ys)
   unfolding after
-  further (found p left) xs ys h = refl
+  further (way p left) xs ys h = refl
   further (no-way left) xs ys h = h left
   further ran-out xs ys h = refl
 
@@ -73,7 +72,7 @@ pub record Rowing (f m₀ m : List ℕ) (task : Task) (place : Place) (tries lef
   pub within : left ≤ tries
   pub same :
       (p : Play) → Stands f m₀ (questionAt f task) place (p .tableau) (p .bindings) → (depth : ℕ) → roomAt f m₀ task place ≤ depth
-      → row (plays (tableAt f task) (task .bound)) depth tries p all ≡ row (plays (tableAt f task) (task .bound)) depth left p rest
+      → row (plays (settingAt f task)) depth tries p all ≡ row (plays (settingAt f task)) depth left p rest
 
 module _ {f m₀ : List ℕ} {task : Task} {place : Place} (treats : Treats f m₀ task place) where
   pub rowing-begin : (tries : ℕ) (all : List Step) → Rowing f m₀ m₀ task place tries tries all all
@@ -84,7 +83,7 @@ module _ {f m₀ : List ℕ} {task : Task} {place : Place} (treats : Treats f m�
       record {
         again = rowing .again;
         within = rowing .within;
-        same = λ p stands depth enough. rowing .same p stands depth enough ∙ ap (row (plays (tableAt f task) (task .bound)) depth left p) e;
+        same = λ p stands depth enough. rowing .same p stands depth enough ∙ ap (row (plays (settingAt f task)) depth left p) e;
       }
 
   module _ {m : List ℕ} {tries left : ℕ} {all : List Step} where
@@ -94,7 +93,7 @@ module _ {f m₀ : List ℕ} {task : Task} {place : Place} (treats : Treats f m�
         (record {
           leaves = rowing .again;
           within = rowing .within;
-          tells = λ p stands depth enough. rowing .same p stands depth enough ∙ row-end (plays (tableAt f task) (task .bound)) depth left p;
+          tells = λ p stands depth enough. rowing .same p stands depth enough ∙ row-end (plays (settingAt f task)) depth left p;
         })
 
     pub rowing-out : {step : Step} {rest : List Step} → Rowing f m₀ m task place tries left all (step ∷ rest) → left ≡ 0
@@ -104,16 +103,16 @@ module _ {f m₀ : List ℕ} {task : Task} {place : Place} (treats : Treats f m�
         (record {
           leaves = tt;
           within = rowing .within;
-          tells = λ p stands depth enough. rowing .same p stands depth enough ∙ row-no-budget (plays (tableAt f task) (task .bound)) depth left p step rest z;
+          tells = λ p stands depth enough. rowing .same p stands depth enough ∙ row-no-budget (plays (settingAt f task)) depth left p step rest z;
         })
 
     module _ (candidate : Move) {rest : List Step} (rowing : Rowing f m₀ m task place tries left all (stepBy candidate ∷ rest)) (some : left ≡ 0 → ⊥)
         {m′ : List ℕ} {r : Searched} (attempted : Attempted f m m′ task place candidate (left - 1) r) where
       abbrev rowed : ℕ → Play → Result Step
-      rowed depth p = row (plays (tableAt f task) (task .bound)) depth tries p all
+      rowed depth p = row (plays (settingAt f task)) depth tries p all
 
       tried : (p : Play) → Stands f m₀ (questionAt f task) place (p .tableau) (p .bindings) → (depth : ℕ) → roomAt f m₀ task place ≤ depth
-          → Tells (r .ending) f m′ task place r p (one (plays (tableAt f task) (task .bound)) depth (left - 1) p (stepBy candidate))
+          → Tells (r .ending) f m′ task place r p (one (plays (settingAt f task)) depth (left - 1) p (stepBy candidate))
       tried p stands depth enough =
           attempted .tells p (stands-again (treats .ready) (rowing .again) p stands) depth
           (omega (arith, room-again task (treats .ready) (rowing .again)))
@@ -131,12 +130,12 @@ module _ {f m₀ : List ℕ} {task : Task} {place : Place} (treats : Treats f m�
           left-so Nothing s l = absurd (s refl)
           left-so Out s l = tt
 
-          told : (e : Ending) (p : Play) (depth : ℕ) → (e ≡ Nothing → ⊥) → Tells e f m′ task place r p (one (plays (tableAt f task) (task .bound)) depth (left - 1) p (stepBy candidate))
-              → rowed depth p ≡ row (plays (tableAt f task) (task .bound)) depth left p (stepBy candidate ∷ rest) → Tells e f m′ task place r p (rowed depth p)
+          told : (e : Ending) (p : Play) (depth : ℕ) → (e ≡ Nothing → ⊥) → Tells e f m′ task place r p (one (plays (settingAt f task)) depth (left - 1) p (stepBy candidate))
+              → rowed depth p ≡ row (plays (settingAt f task)) depth left p (stepBy candidate ∷ rest) → Tells e f m′ task place r p (rowed depth p)
           told Found p depth s h same =
-              finds-by (same ∙ row-found (plays (tableAt f task) (task .bound)) depth left p (stepBy candidate) rest (h .path) (r .left) (omega arith) (h .says) ∙ sym (h .says)) h
+              finds-by (same ∙ row-found (plays (settingAt f task)) depth left p (stepBy candidate) rest (h .path) (r .left) (omega arith) (h .says) ∙ sym (h .says)) h
           told Nothing p depth s h same = absurd (s refl)
-          told Out p depth s h same = same ∙ row-runs-out (plays (tableAt f task) (task .bound)) depth left p (stepBy candidate) rest (omega arith) h
+          told Out p depth s h same = same ∙ row-runs-out (plays (settingAt f task)) depth left p (stepBy candidate) rest (omega arith) h
 
       module _ (none : r .ending ≡ Nothing) where
         pub rowing-on : Rowing f m₀ m′ task place tries (r .left) all rest
@@ -146,7 +145,7 @@ module _ {f m₀ : List ℕ} {task : Task} {place : Place} (treats : Treats f m�
               again = again-then (rowing .again) back;
               within = omega (arith, attempted .within, rowing .within);
               same = λ p stands depth enough.
-                  let said : one (plays (tableAt f task) (task .bound)) depth (left - 1) p (stepBy candidate) ≡ no-way (r .left) = rw none at (tried p stands depth enough) in
+                  let said : one (plays (settingAt f task)) depth (left - 1) p (stepBy candidate) ≡ no-way (r .left) = rw none at (tried p stands depth enough) in
                   rowing .same p stands depth enough
-                  ∙ row-goes-on (plays (tableAt f task) (task .bound)) depth left p (stepBy candidate) rest (r .left) (omega arith) said;
+                  ∙ row-goes-on (plays (settingAt f task)) depth left p (stepBy candidate) rest (r .left) (omega arith) said;
             }

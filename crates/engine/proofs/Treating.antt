@@ -14,9 +14,9 @@ use Rattle.table.specs.Limits.{Words}
 use Rattle.table.specs.Syntax.{allClauses}
 use Rattle.table.proofs.AcceptedTable.{words-each}
 use Rattle.table.proofs.BodyDecoding.{each-take}
-use Rattle.rules.specs.Order.{candidates, candidatesAt, extensions}
-use Rattle.rules.specs.Play.{Play, atEnd, checkFrom, allClosed, plays}
-use Rattle.rules.specs.System.Run.{Result, found, no-way, after, search, row}
+use Rattle.rules.specs.Order.{allClosed, candidates, candidatesAt, extensions}
+use Rattle.rules.specs.Machinery.Play.{Play, atEnd, checkFrom, plays}
+use Rattle.rules.specs.Machinery.Run.{Result, no-way, after, search, row}
 use Rattle.rules.specs.Tableau.{Leaf, fresh}
 use Rattle.rules.proofs.System.Steps.{search-done, search-open, row-end}
 use Rattle.unification.specs.State.{startAt, copiesOf, nextAt, wordsAt, literalAtReference}
@@ -24,7 +24,7 @@ use Rattle.unification.specs.Good.{wordAt, Inside}
 use Rattle.tableaux.specs.Leaves.{leafAt}
 use Rattle.tableaux.specs.Ready.{openLeaves, Stands, leafOf}
 use Rattle.tableaux.specs.Scanning.{begun, pastWord, entriesFrom, Standing, NextEntry, otherSign, extensionAt, extensionsFrom}
-use Rattle.engine.specs.Searching.{without, tableAt, questionAt, roomAt, Treats, Wanted, Allows, Again, Leaves, Tells, Treated, Rowed, reductionsAt, extensionsAt}
+use Rattle.engine.specs.Searching.{without, tableAt, settingAt, questionAt, roomAt, Treats, Wanted, Allows, Again, Leaves, Tells, Treated, Rowed, reductionsAt, extensionsAt}
 use Rattle.tableaux.specs.declared.candidates.Scan.{Scan}
 use Rattle.engine.specs.declared.search.Ending.{Ending}
 use Rattle.engine.specs.declared.search.Ending.the-variants.{Found, Nothing, Out}
@@ -64,7 +64,7 @@ module _ {f m : List ℕ} {task : Task} {place : Place} (treats : Treats f m tas
               record {
                 path = [];
                 play = p;
-                says = search-done (plays (tableAt f task) (task .bound)) depth left p (rw none);
+                says = search-done (plays (settingAt f task)) depth left p (rw none);
                 passes = λ at. rw none;
                 bindings = stands .bindings;
                 questions = stands .questions;
@@ -88,20 +88,20 @@ module _ {f m : List ℕ} {task : Task} {place : Place} (treats : Treats f m tas
 
     -- the candidates of the leaf
     listed : (p : Play) → Stands f m (questionAt f task) place (p .tableau) (p .bindings)
-        → candidates (tableAt f task) (task .bound) (p .tableau) ≡ reductionsAt f m place ++ cond (ltb (p .tableau .extensions) (task .bound)) (extensionsAt f m task place) []
+        → candidates (settingAt f task) (p .tableau) ≡ reductionsAt f m place ++ cond (ltb (p .tableau .extensions) (task .bound)) (extensionsAt f m task place) []
     unfolding candidates candidatesAt
     listed p stands = rw (stands .leaves, open-first (treats .ready) some-open, stands .extensions)
 
     searched : (p : Play) → Stands f m (questionAt f task) place (p .tableau) (p .bindings) → (depth left : ℕ)
-        → search (plays (tableAt f task) (task .bound)) (suc depth) left p
-        ≡ after (row (plays (tableAt f task) (task .bound)) depth left p (reductionsAt f m place))
-        (λ rest. row (plays (tableAt f task) (task .bound)) depth rest p (cond (ltb (p .tableau .extensions) (task .bound)) (extensionsAt f m task place) []))
+        → search (plays (settingAt f task)) (suc depth) left p
+        ≡ after (row (plays (settingAt f task)) depth left p (reductionsAt f m place))
+        (λ rest. row (plays (settingAt f task)) depth rest p (cond (ltb (p .tableau .extensions) (task .bound)) (extensionsAt f m task place) []))
     unfolding allClosed
     searched p stands depth left =
         let more : allClosed (p .tableau .leaves) ≡ false = rw (stands .leaves, open-first (treats .ready) some-open) in
-        search-open (plays (tableAt f task) (task .bound)) depth left p more
-        ∙ ap (row (plays (tableAt f task) (task .bound)) depth left p) (listed p stands)
-        ∙ row-append (plays (tableAt f task) (task .bound)) depth p (reductionsAt f m place) _ left
+        search-open (plays (settingAt f task)) depth left p more
+        ∙ ap (row (plays (settingAt f task)) depth left p) (listed p stands)
+        ∙ row-append (plays (settingAt f task)) depth p (reductionsAt f m place) _ left
 
     module _ {m₁ : List ℕ} {left : ℕ} {r : Searched} (reduced : Rowed f m m₁ task place left r (reductionsAt f m place)) where
       -- a reduction found a proof, or the budget ended
@@ -114,9 +114,9 @@ module _ {f m : List ℕ} {task : Task} {place : Place} (treats : Treats f m tas
             tells = λ p stands depth enough. go (r .ending) p depth settled (reduced .tells p stands depth enough) _ (searched p stands depth left);
           }
         where
-          go : (e : Ending) (p : Play) (depth : ℕ) → (e ≡ Nothing → ⊥) → Tells e f m₁ task place r p (row (plays (tableAt f task) (task .bound)) depth left p (reductionsAt f m place))
-              → (others : ℕ → Result Step) → search (plays (tableAt f task) (task .bound)) (suc depth) left p ≡ after (row (plays (tableAt f task) (task .bound)) depth left p (reductionsAt f m place)) others
-              → Tells e f m₁ task place r p (search (plays (tableAt f task) (task .bound)) (suc depth) left p)
+          go : (e : Ending) (p : Play) (depth : ℕ) → (e ≡ Nothing → ⊥) → Tells e f m₁ task place r p (row (plays (settingAt f task)) depth left p (reductionsAt f m place))
+              → (others : ℕ → Result Step) → search (plays (settingAt f task)) (suc depth) left p ≡ after (row (plays (settingAt f task)) depth left p (reductionsAt f m place)) others
+              → Tells e f m₁ task place r p (search (plays (settingAt f task)) (suc depth) left p)
           go Found p depth s h others same = tells-by f m₁ task place r p Found (same ∙ ap (λ (a : Result Step). after a others) (h .says) ∙ sym (h .says)) h
           go Nothing p depth s h others same = absurd (s refl)
           go Out p depth s h others same = same ∙ ap (λ (a : Result Step). after a others) h
@@ -135,12 +135,12 @@ module _ {f m : List ℕ} {task : Task} {place : Place} (treats : Treats f m tas
         treat-wanted-again e = e ∙ ap otherSign (sym (leaf-word-stays (treats .ready) some-open (back .later)))
 
         onwards : (p : Play) → Stands f m (questionAt f task) place (p .tableau) (p .bindings) → (depth : ℕ) → roomAt f m task place ≤ depth
-            → search (plays (tableAt f task) (task .bound)) (suc depth) left p
-            ≡ row (plays (tableAt f task) (task .bound)) depth (r .left) p (cond (ltb (p .tableau .extensions) (task .bound)) (extensionsAt f m task place) [])
+            → search (plays (settingAt f task)) (suc depth) left p
+            ≡ row (plays (settingAt f task)) depth (r .left) p (cond (ltb (p .tableau .extensions) (task .bound)) (extensionsAt f m task place) [])
         unfolding after
         onwards p stands depth enough =
             searched p stands depth left
-            ∙ ap (λ (a : Result Step). after a (λ rest. row (plays (tableAt f task) (task .bound)) depth rest p (cond (ltb (p .tableau .extensions) (task .bound)) (extensionsAt f m task place) [])))
+            ∙ ap (λ (a : Result Step). after a (λ rest. row (plays (settingAt f task)) depth rest p (cond (ltb (p .tableau .extensions) (task .bound)) (extensionsAt f m task place) [])))
             (nothing-told f m₁ task place r p _ (r .ending) nothing (reduced .tells p stands depth enough))
 
         -- the bound's extensions are used
@@ -151,8 +151,8 @@ module _ {f m : List ℕ} {task : Task} {place : Place} (treats : Treats f m tas
               within = reduced .within;
               tells = λ p stands depth enough.
                   let full : task .bound ≤ p .tableau .extensions = omega (arith, stands .extensions, back .copies) in
-                  let none : row (plays (tableAt f task) (task .bound)) depth (r .left) p (cond (ltb (p .tableau .extensions) (task .bound)) (extensionsAt f m task place) []) ≡ no-way (r .left) =
-                  rw (le-ltb (p .tableau .extensions) (task .bound) full) (row-end (plays (tableAt f task) (task .bound)) depth (r .left) p) in
+                  let none : row (plays (settingAt f task)) depth (r .left) p (cond (ltb (p .tableau .extensions) (task .bound)) (extensionsAt f m task place) []) ≡ no-way (r .left) =
+                  rw (le-ltb (p .tableau .extensions) (task .bound) full) (row-end (plays (settingAt f task)) depth (r .left) p) in
                   tells-by f m₁ task place r p (r .ending)
                   (onwards p stands depth enough ∙ none ∙ sym (nothing-told f m₁ task place r p _ (r .ending) nothing (reduced .tells p stands depth enough)))
                   (reduced .tells p stands depth enough);
@@ -166,9 +166,9 @@ module _ {f m : List ℕ} {task : Task} {place : Place} (treats : Treats f m tas
               within = omega (arith, extended .within, reduced .within);
               tells = λ p stands depth enough.
                   let some-left : p .tableau .extensions < task .bound = omega (arith, stands .extensions, back .copies) in
-                  let all : row (plays (tableAt f task) (task .bound)) depth (r .left) p (cond (ltb (p .tableau .extensions) (task .bound)) (extensionsAt f m task place) [])
-                  ≡ row (plays (tableAt f task) (task .bound)) depth (r .left) p (extensionsAt f m₁ task place) =
-                  rw (lt-ltb (p .tableau .extensions) (task .bound) some-left) (ap (row (plays (tableAt f task) (task .bound)) depth (r .left) p) same-extensions) in
+                  let all : row (plays (settingAt f task)) depth (r .left) p (cond (ltb (p .tableau .extensions) (task .bound)) (extensionsAt f m task place) [])
+                  ≡ row (plays (settingAt f task)) depth (r .left) p (extensionsAt f m₁ task place) =
+                  rw (lt-ltb (p .tableau .extensions) (task .bound) some-left) (ap (row (plays (settingAt f task)) depth (r .left) p) same-extensions) in
                   tells-by f m₂ task place r₂ p (r₂ .ending) (onwards p stands depth enough ∙ all)
                   (extended .tells p (stands-again (treats .ready) back p stands) depth (omega (arith, treat-room)));
             }

@@ -9,8 +9,7 @@ use mathlib.Core.Path.{_≡_, refl, sym, _∙_, ap, ap₂}
 use native.Mathlib.Nat.{add-zero}
 use native.Mathlib.Omega.{arith}
 use Prim.Native.Nat.{ℕ, suc, _+_, _-_, _<_}
-use Rattle.rules.specs.Substitution.{Variable}
-use Rattle.rules.specs.Unify.{sameVariable}
+use Rattle.rules.specs.Substitution.{Variable, sameVariable}
 use Rattle.rules.specs.Answer.{seen, placeOf}
 use Rattle.rules.proofs.Unify.Tests.{decide}
 use Rattle.unification.specs.State.{markAt, variableOf}

@@ -7,8 +7,9 @@ use lib.ListN.{length}
 use Rattle.words.specs.Steps.{stepOf}
 use Rattle.words.specs.declared.Step.{Step}
 use Rattle.table.specs.File.{judge, tableIn}
-use Rattle.rules.specs.Verdict.{Refusal, malformed, not-allowed, statusOf}
-use Rattle.rules.specs.Play.{Play, Performed, goes-on, not-possible, clashes, circular, perform, refusal, passed, stopped, check}
+use Rattle.rules.specs.Setting.{base}
+use Rattle.rules.specs.Verdict.{Refusal, malformed, not-allowed, not-unified, statusOf}
+use Rattle.rules.specs.Machinery.Play.{Play, Performed, goes-on, not-possible, clashes, circular, perform, refusal, passed, stopped, check}
 use Rattle.unification.specs.State.{markAt, literalAt, parentAt}
 use Rattle.tableaux.specs.Leaves.{chain}
 use Rattle.tableaux.specs.Ready.{Ready, Stands}
@@ -42,10 +43,10 @@ judgedBy Circle place = Circular
 
 abbrev pub statusFor : Judged → ℕ
 statusFor (On place) = 0
-statusFor Malformed = 12
-statusFor NotAllowed = 13
-statusFor Clashes = 14
-statusFor Circular = 14
+statusFor Malformed = statusOf malformed
+statusFor NotAllowed = statusOf not-allowed
+statusFor Clashes = statusOf not-unified
+statusFor Circular = statusOf not-unified
 
 -- the tableau goes on at a place
 pub record Moved (f m m′ : List ℕ) (place next : Place) : Type 0 where
@@ -75,18 +76,18 @@ Says f m s Circular o = o ≡ circular
 -- one step at a place, for every play that the work words stand for
 pub record Checked (f m m′ : List ℕ) (bound : ℕ) (place : Place) (word : ℕ) (r : Judged) : Type 0 where
   pub moves : Moves f m m′ place r
-  pub says : (p : Play) → PlayAt f m place p → Says f m′ (stepOf word) r (perform (tableIn f) bound p (stepOf word))
+  pub says : (p : Play) → PlayAt f m place p → Says f m′ (stepOf word) r (perform (base (tableIn f) bound) p (stepOf word))
 
 -- the verdict on all steps
 pub record AcceptedAs (f m : List ℕ) (question bound : ℕ) (offered : List ℕ) (steps : ℕ) : Type 0 where
   pub count : steps ≡ length offered
   pub play : Play
-  pub passes : check (tableIn f) bound (map stepOf offered) ≡ passed play
+  pub passes : check (base (tableIn f) bound) (map stepOf offered) ≡ passed play
   pub ended : Ended f m question play
 
 pub record RefusedAs (f : List ℕ) (bound : ℕ) (offered : List ℕ) (status place : ℕ) : Type 0 where
   pub why : Refusal
-  pub stops : check (tableIn f) bound (map stepOf offered) ≡ stopped why place
+  pub stops : check (base (tableIn f) bound) (map stepOf offered) ≡ stopped why place
   pub number : status ≡ statusOf why
 
 abbrev pub Decided : List ℕ → List ℕ → ℕ → ℕ → List ℕ → Verdict → Type 0

@@ -6,8 +6,9 @@ use lib.ListN.{length, take, drop}
 use Rattle.words.specs.Steps.{stepWord}
 use Rattle.words.specs.declared.Step.{Step}
 use Rattle.table.specs.Syntax.{Table}
+use Rattle.rules.specs.Setting.{base}
 use Rattle.rules.specs.Verdict.{finds}
-use Rattle.rules.specs.Play.{Play, passed, check, searchFor}
+use Rattle.rules.specs.Machinery.Play.{Play, passed, check, searchFor}
 use Rattle.unification.specs.State.{copiesOf, markAt, bound}
 use Rattle.unification.specs.Good.{Good}
 use Rattle.tableaux.specs.Leaves.{questionsAmong}
@@ -23,10 +24,10 @@ pub record Ended (f m : List ℕ) (question : ℕ) (p : Play) : Type 0 where
 pub record Found (t : Table) (f m : List ℕ) (question bound budget left steps : ℕ) : Type 0 where
   pub proof : List Step
   pub play : Play
-  pub says : searchFor t bound budget ≡ finds proof (budget - left)
+  pub says : searchFor (base t bound) budget ≡ finds proof (budget - left)
   pub within : left ≤ budget
   pub count : steps ≡ length proof
   pub few : steps ≤ 199
   pub noted : take steps (drop 1984 m) ≡ map stepWord proof
-  pub passes : check t bound proof ≡ passed play
+  pub passes : check (base t bound) proof ≡ passed play
   pub ended : Ended f m question play

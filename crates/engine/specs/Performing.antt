@@ -2,7 +2,7 @@
 use mathlib.Core.List.{List}
 use mathlib.Core.Path.{_≡_}
 use Prim.Native.Nat.{ℕ}
-use Rattle.rules.specs.Play.{Play, Performed, goes-on, clashes, circular}
+use Rattle.rules.specs.Machinery.Play.{Play, Performed, goes-on, clashes, circular}
 use Rattle.tableaux.specs.Ready.{Stands}
 use Rattle.tableaux.specs.declared.tableau.Place.{Place}
 use Rattle.unification.specs.declared.unify.Meeting.{Meeting}

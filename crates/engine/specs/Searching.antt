@@ -11,9 +11,10 @@ use Rattle.table.specs.Body.{starts, lastOf}
 use Rattle.table.specs.Decode.{tableOf}
 use Rattle.table.specs.Limits.{Readable}
 use Rattle.table.specs.Syntax.{Table, allClauses}
+use Rattle.rules.specs.Setting.{Setting, base}
 use Rattle.rules.specs.Order as order
-use Rattle.rules.specs.Play.{Play, passed, perform, checkFrom, plays, searchFor}
-use Rattle.rules.specs.System.Run.{Result, found, no-way, ran-out, search, one, row}
+use Rattle.rules.specs.Machinery.Play.{Play, passed, perform, checkFrom, plays, searchFor}
+use Rattle.rules.specs.Machinery.Run.{Result, way, no-way, ran-out, search, one, row}
 use Rattle.rules.specs.Tableau.{Leaf, ancestor}
 use Rattle.rules.specs.Verdict.{finds-none, runs-out}
 use Rattle.table.specs.File.{tableIn}
@@ -37,6 +38,9 @@ use Rattle.unification.specs.declared.unify.Meeting.the-variants.{Made}
 -- the table and the question that are searched
 abbrev pub tableAt : List ℕ → Task → Table
 tableAt f task = tableOf (take (task .body) f)
+
+abbrev pub settingAt : List ℕ → Task → Setting
+settingAt f task = base (tableAt f task) (task .bound)
 
 abbrev pub questionAt : List ℕ → Task → ℕ
 questionAt f task = lastOf 0 (starts 0 0 (take (task .body) f))
@@ -94,7 +98,7 @@ pub record Takes (f m m′ : List ℕ) (task : Task) (place : Place) (candidate 
   pub noted : stepAt m′ (place .steps) ≡ stepWord (stepBy candidate)
   pub comes :
       (p : Play) → Stands f m (questionAt f task) place (p .tableau) (p .bindings)
-      → Comes f m′ (questionAt f task) (r .place) (r .meeting) (perform (tableAt f task) (task .bound) p (stepBy candidate))
+      → Comes f m′ (questionAt f task) (r .place) (r .meeting) (perform (settingAt f task) p (stepBy candidate))
   pub onward : r .meeting ≡ Made → Onward f m m′ task place (r .place)
 
 -- the bindings and copies made since are gone
@@ -124,8 +128,8 @@ pub record Noting (f m m′ : List ℕ) (place : Place) (r : Searched) : Type 0 
 pub record Finds (f m′ : List ℕ) (task : Task) (place : Place) (r : Searched) (p : Play) (result : Result Step) : Type 0 where
   pub path : List Step
   pub play : Play
-  pub says : result ≡ found path (r .left)
-  pub passes : (at : ℕ) → checkFrom (tableAt f task) (task .bound) p at path ≡ passed play
+  pub says : result ≡ way path (r .left)
+  pub passes : (at : ℕ) → checkFrom (settingAt f task) p at path ≡ passed play
   pub bindings : play .bindings ≡ bound f m′
   pub questions : play .tableau .questions ≡ questionsAmong m′ (questionAt f task) (copiesOf m′)
   pub count : r .steps ≡ place .steps + length path
@@ -152,11 +156,11 @@ pub record Runs (f m m′ : List ℕ) (task : Task) (place : Place) (budget : �
 
 abbrev pub Treated : List ℕ → List ℕ → List ℕ → Task → Place → ℕ → Searched → Type 0
 Treated f m m′ task place budget r =
-    Runs f m m′ task place budget r (λ depth p. search (plays (tableAt f task) (task .bound)) (suc depth) budget p)
+    Runs f m m′ task place budget r (λ depth p. search (plays (settingAt f task)) (suc depth) budget p)
 
 abbrev pub Attempted : List ℕ → List ℕ → List ℕ → Task → Place → Move → ℕ → Searched → Type 0
 Attempted f m m′ task place candidate budget r =
-    Runs f m m′ task place budget r (λ depth p. one (plays (tableAt f task) (task .bound)) depth budget p (stepBy candidate))
+    Runs f m m′ task place budget r (λ depth p. one (plays (settingAt f task)) depth budget p (stepBy candidate))
 
 abbrev pub reductionsAt : List ℕ → List ℕ → Place → List Step
 reductionsAt f m place = order.reductions (leafTreated f m place .literal) 1 (leafTreated f m place .branch)
@@ -166,10 +170,10 @@ extensionsAt f m task place = order.extensions (leafTreated f m place .literal) 
 
 abbrev pub Rowed : List ℕ → List ℕ → List ℕ → Task → Place → ℕ → Searched → List Step → Type 0
 Rowed f m m′ task place budget r steps =
-    Runs f m m′ task place budget r (λ depth p. row (plays (tableAt f task) (task .bound)) depth budget p steps)
+    Runs f m m′ task place budget r (λ depth p. row (plays (settingAt f task)) depth budget p steps)
 
 -- the search as a whole
 abbrev pub Ends : Ending → List ℕ → List ℕ → ℕ → ℕ → ℕ → Searched → Type 0
 Ends Found f m question bound budget r = ended.Found (tableIn f) f m question bound budget (r .left) (r .steps)
-Ends Nothing f m question bound budget r = (searchFor (tableIn f) bound budget ≡ finds-none (budget - r .left)) × (r .left ≤ budget)
-Ends Out f m question bound budget r = searchFor (tableIn f) bound budget ≡ runs-out budget
+Ends Nothing f m question bound budget r = (searchFor (base (tableIn f) bound) budget ≡ finds-none (budget - r .left)) × (r .left ≤ budget)
+Ends Out f m question bound budget r = searchFor (base (tableIn f) bound) budget ≡ runs-out budget

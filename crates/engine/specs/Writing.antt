@@ -11,7 +11,7 @@ use Rattle.table.specs.Syntax.{Term, Terms, var, app, nil, _then_, arity, under
 use Rattle.table.specs.Encode.{literalsWords}
 use Rattle.table.specs.Decode.{first, clauseOf}
 use Rattle.rules.specs.Substitution.{Variable, Substitution}
-use Rattle.rules.specs.Unify.{solution}
+use Rattle.rules.specs.Machinery.Unify.{solution}
 use Rattle.rules.specs.Answer.{disjunct, seen, placeOf, numbered, joined}
 use Rattle.unification.specs.State.{startAt, copiesOf, markAt, ownWords, termsOf, Points, variableOf, bound}
 use Rattle.tableaux.specs.Leaves.{questionsAmong}

@@ -213,12 +213,12 @@ fn write_copy(
     let own = copy * 256;
     let count = fields::following(memory::word_at(file, work, own));
     let mut written = begun;
-    let mut i: u32 = 1;
-    while i <= count {
-        let at = own + i;
+    let mut offset: u32 = 1;
+    while offset <= count {
+        let at = own + offset;
         let word = memory::word_at(file, work, at);
         written = write_word(file, work, answer, at, word, written);
-        i += 1;
+        offset += 1;
     }
     written
 }

@@ -18,6 +18,15 @@ ghost use Rattle.tableaux.specs.Ready.{Ready, leafOf};
 ghost use Rattle.tableaux.specs.Scanning.{otherSign};
 ghost use Rattle.engine.specs.Checking.{Upward, lineage, aboveOf, judgedBy, statusFor, Checked, Decided};
 
+// The checker's statuses.
+pub const MALFORMED: u32 = 12;
+
+pub const NOT_ALLOWED: u32 = 13;
+
+pub const NOT_UNIFIED: u32 = 14;
+
+pub const LEAVES_OPEN: u32 = 15;
+
 // What becomes of a step: the tableau goes on, or the step is malformed, not allowed, or its pair does not unify with what is bound.
 pub enum Judged {
     On(Place),
@@ -160,10 +169,10 @@ fn status(judged: Judged) -> u32
 {
     match judged {
         Judged::On(_) => 0,
-        Judged::Malformed => 12,
-        Judged::NotAllowed => 13,
-        Judged::Clashes => 14,
-        Judged::Circular => 14,
+        Judged::Malformed => MALFORMED,
+        Judged::NotAllowed => NOT_ALLOWED,
+        Judged::Clashes => NOT_UNIFIED,
+        Judged::Circular => NOT_UNIFIED,
     }
 }
 
@@ -182,7 +191,7 @@ pub fn run(file: &[u32], work: &mut [u32], question: u32, bound: u32, offered: &
         i += 1;
     }
     if place.head != 0 {
-        return Verdict::Refused(15, place.steps);
+        return Verdict::Refused(LEAVES_OPEN, place.steps);
     }
     Verdict::Accepted(place.steps)
 }

@@ -1,32 +1,28 @@
 -- What a call tells, outcome by outcome: each law goes from what a function below the public calls knows to what it promises.
 use mathlib.Core.Bool.{Bool, true, false, not}
-use mathlib.Core.List.{List, [], _++_, map}
+use mathlib.Core.List.{List, [], map}
 use mathlib.Core.Path.{_≡_, refl, sym, _∙_, subst}
 use Prim.Native.Nat.{ℕ, _+_, _-_, _≤_, _<_}
 use native.Mathlib.Omega.{arith}
-use borrow.Author.Tests.{lt-ltb, le-ltb, le-leb, lt-leb, ne-eqb, leb-true, not-true, not-false}
-use mir.Syntax.{w32}
-use mir.Val.{Fits}
+use borrow.Author.Tests.{le-leb, lt-leb, leb-true, not-true, not-false}
 use lib.Dec.{leb}
-use lib.ListN.{length, take, drop, replicate}
-use lib.Seq.{drop-at}
+use lib.ListN.{length, take, drop}
+use lib.Seq.{length-take-le}
 use Rattle.words.specs.Steps.{stepOf}
-use Rattle.table.specs.Decode.{clauseOf}
 use Rattle.table.specs.File.{judge, tableIn}
-use Rattle.table.proofs.Accepted.{accepted}
-use Rattle.table.proofs.AcceptedTable.{body-readable, question-start}
+use Rattle.rules.specs.Setting.{base}
 use Rattle.rules.specs.Answer.{answerWords, disjuncts}
-use Rattle.rules.specs.Play.{Play, check, searchFor, disjunctsOf}
-use Rattle.rules.specs.Play as Play
-use Rattle.unification.specs.State.{copiesOf, ownWords, ClauseAt}
+use Rattle.rules.specs.Machinery.Play.{Play, check, searchFor, disjunctsOf}
+use Rattle.rules.specs.Machinery.Play as Play
+use Rattle.unification.specs.State.{copiesOf}
 use Rattle.tableaux.specs.Leaves.{questionsAmong}
-use Rattle.hukolearu.specs.Calls.{Given, refused, granted, roomOf, answered, checkGiven, foundGiven, searchGiven, ifAccepted, searchCall, checkCall, atFront, workAfter}
+use Rattle.hukolearu.specs.Calls.{Given, refused, granted, roomOf, answered, checkGiven, foundGiven, searchGiven, refusedBy, SearchAsked, searchInputs, searchSetting, searchCall, CheckAsked, checkInputs, checkSetting, checkCall, atFront}
 use Rattle.engine.specs.Ended.{Ended}
 use Rattle.engine.specs.Writing.{answerHeld, Counted, Answered}
 use Rattle.engine.specs.Searching.{Ends}
 use Rattle.engine.specs.Checking.{RefusedAs, Decided}
+use Rattle.hukolearu.specs.Enums.{byEnding, byVerdict, byRoom}
 use Rattle.hukolearu.specs.Telling.{Told, Passed, Answerable, Writable, held}
-use Rattle.table.specs.declared.Judgement.{Judgement}
 use Rattle.hukolearu.specs.declared.Outcome.{Outcome}
 use Rattle.engine.specs.declared.check.Verdict.{Verdict}
 use Rattle.engine.specs.declared.check.Verdict.the-variants.{Accepted, Refused}
@@ -36,7 +32,11 @@ use Rattle.engine.specs.declared.search.Ending.the-variants.{Found as AFound, N
 use Rattle.engine.specs.declared.answer.Answer.{Answer}
 use Rattle.engine.specs.declared.answer.Room.{Room}
 use Rattle.engine.specs.declared.answer.Room.the-variants.{Left, Over}
-use Rattle.engine.proofs.Places.{question-placed}
+use Rattle.hukolearu.specs.Door.{Admitted, entryOf}
+use Rattle.hukolearu.specs.declared.door.Entry.{Entry}
+use Rattle.hukolearu.specs.declared.door.Entry.the-variants.{Open as OpenDoor, Refused as RefusedAtDoor}
+use Rattle.hukolearu.specs.declared.door.Inputs.{Inputs}
+use Rattle.hukolearu.proofs.DoorLaws.{question-stands, opened, shut}
 use Rattle.hukolearu.proofs.Says.{search-accepted, check-accepted}
 
 -- a refusal changes neither buffer
@@ -51,17 +51,14 @@ tells e t = rw e t
 
 -- the question of an accepted file
 module _ (f : List ℕ) (judged : judge f .status ≡ 0) {question : ℕ} (asked : question ≡ judge f .question) where
-  pub question-stands : ClauseAt f question × (clauseOf (ownWords f question) ≡ tableIn f .question)
-  question-stands = rw asked (rw (question-start f judged) at (question-placed f (length f - 4) (omega arith) (body-readable f judged)))
-
   -- the work words hold a play at its end: its answer is theirs
   module _ {m : List ℕ} {p : Play} (e : Ended f m question p) where
     pub answerable : Answerable f m question
-    answerable = record { good = e .good; asked = question-stands .0; unmarked = e .unnumbered }
+    answerable = record { good = e .good; asked = question-stands f judged asked .0; unmarked = e .unnumbered }
 
     same-answer : answerHeld f m question ≡ Play.answerOf (tableIn f) p
     unfolding answerHeld Play.answerOf answerWords disjuncts
-    same-answer = rw (e .bindings, e .questions, question-stands .1)
+    same-answer = rw (e .bindings, e .questions, question-stands f judged asked .1)
 
     same-count : length (questionsAmong m question (copiesOf m)) ≡ disjunctsOf p
     unfolding disjunctsOf
@@ -89,16 +86,16 @@ module _ (f m : List ℕ) (question bound budget : ℕ) (ended : Searched) (h : 
   found-answerable p e = answerable f (p .judged) (p .asked) (as-ended e .ended)
 
   pub nothing-given : (room : ℕ) → ended .ending ≡ Nothing
-      → searchGiven (tableIn f) bound room (searchFor (tableIn f) bound budget) ≡ refused 10 0 (budget - ended .left)
+      → searchGiven (base (tableIn f) bound) room (searchFor (base (tableIn f) bound) budget) ≡ refused 10 0 (budget - ended .left)
   unfolding searchGiven
   nothing-given room e = rw (as-ended e .0)
 
-  pub out-given : (room : ℕ) → ended .ending ≡ Out → searchGiven (tableIn f) bound room (searchFor (tableIn f) bound budget) ≡ refused 11 0 budget
+  pub out-given : (room : ℕ) → ended .ending ≡ Out → searchGiven (base (tableIn f) bound) room (searchFor (base (tableIn f) bound) budget) ≡ refused 11 0 budget
   unfolding searchGiven
   out-given room e = rw (as-ended e)
 
   pub found-given : {m₀ : List ℕ} (room : ℕ) → Passed f m₀ question bound → ended .ending ≡ AFound
-      → searchGiven (tableIn f) bound room (searchFor (tableIn f) bound budget)
+      → searchGiven (base (tableIn f) bound) room (searchFor (base (tableIn f) bound) budget)
       ≡ held f m question (ended .steps) (take (ended .steps) (drop 1984 m)) (budget - ended .left) room
   unfolding searchGiven foundGiven
   found-given room p e =
@@ -106,12 +103,26 @@ module _ (f m : List ℕ) (question bound budget : ℕ) (ended : Searched) (h : 
       rw (x .says, x .passes, ← x .count, ← x .noted)
       (held-answered f (p .judged) (p .asked) (x .ended) (ended .steps) (take (ended .steps) (drop 1984 m)) (budget - ended .left) room)
 
+  -- by the enum's own definition
+  pub search-by-ending : {m₀ : List ℕ} (room : ℕ) → Passed f m₀ question bound
+      → searchGiven (base (tableIn f) bound) room (searchFor (base (tableIn f) bound) budget)
+      ≡ byEnding (ended .ending) budget (ended .left)
+      (held f m question (ended .steps) (take (ended .steps) (drop 1984 m)) (budget - ended .left) room)
+  search-by-ending room p = go (ended .ending) refl
+    where
+      go : (e : Ending) → ended .ending ≡ e
+          → searchGiven (base (tableIn f) bound) room (searchFor (base (tableIn f) bound) budget)
+          ≡ byEnding e budget (ended .left) (held f m question (ended .steps) (take (ended .steps) (drop 1984 m)) (budget - ended .left) room)
+      go AFound e = found-given room p e
+      go Nothing e = nothing-given room e
+      go Out e = out-given room e
+
 pub ruleset search-laws =
     (nothing-left, found-left, found-few, found-answerable, refuses, tells, nothing-given, out-given, found-given)
 
 -- the checker: refused at a step, or accepted
 stopped-given : (f : List ℕ) (bound : ℕ) (offered : List ℕ) {status place : ℕ} (room : ℕ) → RefusedAs f bound offered status place
-    → checkGiven (tableIn f) (length offered) room (check (tableIn f) bound (map stepOf offered)) ≡ refused status place 0
+    → checkGiven (tableIn f) (length offered) room (check (base (tableIn f) bound) (map stepOf offered)) ≡ refused status place 0
 unfolding checkGiven
 stopped-given f bound offered room x = rw (x .stops, x .number)
 
@@ -123,15 +134,22 @@ module _ (f m : List ℕ) (question bound : ℕ) (offered : List ℕ) {v : Verdi
   accepted-answerable p e = answerable f (p .judged) (p .asked) (as-decided e .ended)
 
   pub refused-given : {status place : ℕ} (room : ℕ) → v ≡ Refused status place
-      → checkGiven (tableIn f) (length offered) room (check (tableIn f) bound (map stepOf offered)) ≡ refused status place 0
+      → checkGiven (tableIn f) (length offered) room (check (base (tableIn f) bound) (map stepOf offered)) ≡ refused status place 0
   refused-given room e = stopped-given f bound offered room (as-decided e)
 
   pub accepted-given : {m₀ : List ℕ} {steps : ℕ} (room : ℕ) → Passed f m₀ question bound → v ≡ Accepted steps
-      → checkGiven (tableIn f) (length offered) room (check (tableIn f) bound (map stepOf offered)) ≡ held f m question steps [] 0 room
+      → checkGiven (tableIn f) (length offered) room (check (base (tableIn f) bound) (map stepOf offered)) ≡ held f m question steps [] 0 room
   unfolding checkGiven
   accepted-given {steps = steps} room p e =
       let x = as-decided e in
       rw (x .passes, ← x .count) (held-answered f (p .judged) (p .asked) (x .ended) steps [] 0 room)
+
+pub check-by-verdict : (f m : List ℕ) (question bound : ℕ) (offered : List ℕ) (v : Verdict) → Decided f m question bound offered v
+    → {m₀ : List ℕ} (room : ℕ) → Passed f m₀ question bound
+    → checkGiven (tableIn f) (length offered) room (check (base (tableIn f) bound) (map stepOf offered))
+    ≡ byVerdict v (λ (steps : ℕ). held f m question steps [] 0 room)
+check-by-verdict f m question bound offered (Accepted steps) h room p = accepted-given f m question bound offered h room p refl
+check-by-verdict f m question bound offered (Refused status place) h room p = refused-given f m question bound offered h room refl
 
 pub ruleset check-laws = (accepted-answerable, refuses, tells, refused-given, accepted-given)
 
@@ -172,88 +190,41 @@ fits-left {q} {room} {left} words needed e counted o =
     let over : left + needed ≡ room = subst (λ (x : Room). Counted room needed x) o counted in
     sym (le-leb needed (roomOf words) (omega arith))
 
+pub held-by-room : (f m : List ℕ) (question steps : ℕ) (proof : List ℕ) (tries words : ℕ) (q : Room)
+    → Counted (roomOf words) (length (answerHeld f m question)) q
+    → held f m question steps proof tries words
+    ≡ byRoom q tries (granted steps proof (length (questionsAmong m question (copiesOf m))) (answerHeld f m question) tries)
+unfolding held
+held-by-room f m question steps proof tries words (Left left) counted =
+    rw (← fits-left words (length (answerHeld f m question)) refl counted refl)
+held-by-room f m question steps proof tries words Over counted =
+    rw (← fits-over words (length (answerHeld f m question)) refl counted refl)
+
 pub ruleset fit-laws = (fits-over, fits-left)
 
 pub ruleset answer-laws = (refuses, held-over, fit-told, fit-writable, wrote-told)
 
--- the checks of input of a search, in order
-module _ (f : List ℕ) (bound budget proofRoom answerRoom workRoom : ℕ) where
-  pub little-work : workRoom < 16384 → searchCall f bound budget proofRoom answerRoom workRoom ≡ refused 1 0 0
+-- the work past the door
+pub all-passed : {f : List ℕ} {i : Inputs} (w : List ℕ) {question : ℕ} → Admitted f i → question ≡ judge f .question → i .work ≡ length w
+    → Passed f (take 16384 w) question (i .bound)
+all-passed w a asked enough = record { room = length-take-le 16384 w (omega arith); judged = a .good-file; asked = asked; low = a .low-bound }
+
+-- what a call tells by what it learns at the door
+module _ (a : SearchAsked) {entry : Entry} (says : entry ≡ entryOf (a .file) (searchInputs a)) where
+  pub search-refused : {status place : ℕ} → entry ≡ RefusedAtDoor status place → searchCall a ≡ refused status place 0
   unfolding searchCall
-  little-work h = rw (lt-ltb workRoom 16384 h)
+  search-refused e = shut (a .file) (searchInputs a) says e refusedBy _
 
-  pub enough-work : 16384 ≤ workRoom → searchCall f bound budget proofRoom answerRoom workRoom ≡ searchCall f bound budget proofRoom answerRoom 16384
-  unfolding searchCall
-  enough-work h = rw (le-ltb workRoom 16384 h)
+  pub search-admitted : {question : ℕ} → entry ≡ OpenDoor question
+      → searchCall a ≡ searchGiven (searchSetting a) (a .answerRoom) (searchFor (searchSetting a) (a .budget))
+  search-admitted e = search-accepted a (opened (a .file) (searchInputs a) says e)
 
-module _ (f : List ℕ) (bound budget proofRoom answerRoom : ℕ) where
-  pub little-proof : proofRoom < 199 → searchCall f bound budget proofRoom answerRoom 16384 ≡ refused 2 0 0
-  unfolding searchCall
-  little-proof h = rw (lt-ltb proofRoom 199 h)
-
-  pub high-bound : 199 ≤ proofRoom → 32 < bound → searchCall f bound budget proofRoom answerRoom 16384 ≡ refused 3 0 0
-  unfolding searchCall
-  high-bound p h = rw (le-ltb proofRoom 199 p, lt-ltb 32 bound h)
-
-  pub bad-file : 199 ≤ proofRoom → bound ≤ 32 → {j : Judgement} → j ≡ judge f → (j .status ≡ 0 → ⊥)
-      → searchCall f bound budget proofRoom answerRoom 16384 ≡ refused (j .status) (j .place) 0
-  unfolding searchCall ifAccepted
-  bad-file p h {j} e n = rw (le-ltb proofRoom 199 p, le-ltb 32 bound h, ← e, ne-eqb (j .status) 0 n)
-
-  pub past-checks : 199 ≤ proofRoom → bound ≤ 32 → {j : Judgement} → j ≡ judge f → j .status ≡ 0
-      → searchCall f bound budget proofRoom answerRoom 16384 ≡ searchGiven (tableIn f) bound answerRoom (searchFor (tableIn f) bound budget)
-  past-checks p h e z =
-      search-accepted (record { enough-work = omega arith; enough-proof = p; low-bound = h; good-file = cc }) budget answerRoom
-
-pub small-question : (f : List ℕ) {j : Judgement} → j ≡ judge f → j .status ≡ 0 → Fits w32 (j .question)
-small-question f {j} e z =
-    let judged : judge f .status ≡ 0 = cc in
-    let asked : j .question ≡ judge f .question = cc in
-    omega (arith, question-stands f judged asked .0 .inside, accepted f judged .most)
-
-pub all-passed : (f m : List ℕ) (bound : ℕ) {j : Judgement} → length m ≡ 16384 → bound ≤ 32 → j ≡ judge f → j .status ≡ 0 → Passed f m (j .question) bound
-all-passed f m bound {j} l h e z =
-    let judged : judge f .status ≡ 0 = cc in
-    let asked : j .question ≡ judge f .question = cc in
-    record { room = l; judged = judged; asked = asked; low = h }
-
-pub ruleset searching-laws = (refuses, tells, little-proof, high-bound, bad-file, past-checks, all-passed)
-
--- those of a check
-module _ (f : List ℕ) (bound : ℕ) (offered : List ℕ) (answerRoom workRoom : ℕ) where
-  pub check-little-work : workRoom < 16384 → checkCall f bound offered answerRoom workRoom ≡ refused 1 0 0
+module _ (a : CheckAsked) {entry : Entry} (says : entry ≡ entryOf (a .file) (checkInputs a)) where
+  pub check-refused : {status place : ℕ} → entry ≡ RefusedAtDoor status place → checkCall a ≡ refused status place 0
   unfolding checkCall
-  check-little-work h = rw (lt-ltb workRoom 16384 h)
+  check-refused e = shut (a .file) (checkInputs a) says e refusedBy _
 
-  pub check-enough-work : 16384 ≤ workRoom → checkCall f bound offered answerRoom workRoom ≡ checkCall f bound offered answerRoom 16384
-  unfolding checkCall
-  check-enough-work h = rw (le-ltb workRoom 16384 h)
-
-module _ (f : List ℕ) (bound : ℕ) (offered : List ℕ) (answerRoom : ℕ) where
-  pub check-over : 32 < bound → checkCall f bound offered answerRoom 16384 ≡ refused 3 0 0
-  unfolding checkCall
-  check-over h = rw (lt-ltb 32 bound h)
-
-  pub check-bad-file : bound ≤ 32 → {j : Judgement} → j ≡ judge f → (j .status ≡ 0 → ⊥)
-      → checkCall f bound offered answerRoom 16384 ≡ refused (j .status) (j .place) 0
-  unfolding checkCall ifAccepted
-  check-bad-file h {j} e n = rw (le-ltb 32 bound h, ← e, ne-eqb (j .status) 0 n)
-
-  pub check-past : bound ≤ 32 → {j : Judgement} → j ≡ judge f → j .status ≡ 0
-      → checkCall f bound offered answerRoom 16384 ≡ checkGiven (tableIn f) (length offered) answerRoom (check (tableIn f) bound (map stepOf offered))
-  check-past h e z = check-accepted (record { enough-work = omega arith; low-bound = h; good-file = cc }) offered answerRoom
-
-pub ruleset checking-laws = (refuses, tells, check-over, check-bad-file, check-past, all-passed)
-
--- the work words: untouched where they are too few, else zero at the front
-pub work-untouched : (w : List ℕ) → length w < 16384 → w ≡ workAfter w
-unfolding workAfter
-work-untouched w h = rw (lt-ltb (length w) 16384 h)
-
-wiped-front : (n : ℕ) (w part : List ℕ) → length part ≡ n → replicate n 0 ++ drop n (part ++ drop n w) ≡ replicate n 0 ++ drop n w
-wiped-front n w part l = rw (drop-at part (drop n w) n l)
-
-pub work-wiped : (w part : List ℕ) {w′ : List ℕ} → 16384 ≤ length w → length part ≡ 16384 → w′ ≡ replicate 16384 0 ++ drop 16384 (part ++ drop 16384 w)
-    → w′ ≡ workAfter w
-unfolding workAfter
-work-wiped w part h l e = e ∙ wiped-front 16384 w part l ∙ rw (le-ltb (length w) 16384 h)
+  pub check-admitted : {question : ℕ} → entry ≡ OpenDoor question
+      → checkCall a
+      ≡ checkGiven (tableIn (a .file)) (length (a .offered)) (a .answerRoom) (check (checkSetting a) (map stepOf (a .offered)))
+  check-admitted e = check-accepted a (opened (a .file) (checkInputs a) says e)

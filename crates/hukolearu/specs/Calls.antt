@@ -1,18 +1,21 @@
 -- The public calls (document 01, "What comes back"): for every file, proof, bound, budget and buffer size, the six numbers that come back
 -- and the words that then stand at the front of the proof and answer buffers.
-use mathlib.Core.Bool.{Bool, cond}
+use mathlib.Core.Bool.{cond}
 use mathlib.Core.List.{List, [], _∷_, _++_, map}
 use Prim.Native.Nat.{ℕ, min}
-use lib.Dec.{eqb, leb, ltb}
-use lib.ListN.{length, drop, replicate}
+use lib.Dec.{leb}
+use lib.ListN.{length, drop}
 use Rattle.words.specs.Steps.{stepOf, stepWord}
 use Rattle.words.specs.declared.Step.{Step}
 use Rattle.table.specs.Syntax.{Table}
-use Rattle.table.specs.File.{judge, tableIn}
-use Rattle.table.specs.declared.Judgement.{Judgement}
+use Rattle.table.specs.File.{tableIn}
+use Rattle.rules.specs.Setting.{Setting, base}
 use Rattle.rules.specs.Verdict.{Refusal, statusOf, SearchVerdict, finds, finds-none, runs-out}
-use Rattle.rules.specs.Play.{Play, Checking, passed, stopped, check, searchFor, answerOf, disjunctsOf}
+use Rattle.rules.specs.Machinery.Play.{Play, Checking, passed, stopped, check, searchFor, answerOf, disjunctsOf}
+use Rattle.hukolearu.specs.Status as Status
+use Rattle.hukolearu.specs.Door.{Fault, firstFault, checks, behind}
 use Rattle.hukolearu.specs.declared.Outcome.{Outcome}
+use Rattle.hukolearu.specs.declared.door.Inputs.{Inputs}
 
 -- what a call gives: the numbers, and the words of the proof and of the answer
 pub record Given : Type 0 where
@@ -33,7 +36,7 @@ refused status place tries =
 abbrev pub granted : ℕ → List ℕ → ℕ → List ℕ → ℕ → Given
 granted steps proof disjuncts answer tries =
     record {
-      outcome = record { status = 0; place = 0; proof = steps; disjuncts = disjuncts; answer = length answer; tries = tries };
+      outcome = record { status = Status.done; place = 0; proof = steps; disjuncts = disjuncts; answer = length answer; tries = tries };
       proof = proof;
       answer = answer;
     }
@@ -44,7 +47,7 @@ roomOf words = min words 4294967295
 
 unfoldable pub answered : Table → ℕ → List ℕ → ℕ → ℕ → Play → Given
 answered t steps proof tries room p =
-    cond (leb (length (answerOf t p)) (roomOf room)) (granted steps proof (disjunctsOf p) (answerOf t p) tries) (refused 16 0 tries)
+    cond (leb (length (answerOf t p)) (roomOf room)) (granted steps proof (disjunctsOf p) (answerOf t p) tries) (refused Status.answerTooLong 0 tries)
 
 -- the checker: 12 to 15 with the place of the step; on 0 the step count as proof words, with tries 0, and no proof is written
 unfoldable pub checkGiven : Table → ℕ → ℕ → Checking → Given
@@ -56,33 +59,64 @@ unfoldable pub foundGiven : Table → List Step → ℕ → ℕ → Checking →
 foundGiven t steps tries room (passed p) = answered t (length steps) (map stepWord steps) tries room p
 foundGiven t steps tries room (stopped why place) = refused (statusOf why) place tries
 
-unfoldable pub searchGiven : Table → ℕ → ℕ → SearchVerdict → Given
-searchGiven t bound room (finds steps tries) = foundGiven t steps tries room (check t bound steps)
-searchGiven t bound room (finds-none tries) = refused 10 0 tries
-searchGiven t bound room (runs-out tries) = refused 11 0 tries
+unfoldable pub searchGiven : Setting → ℕ → SearchVerdict → Given
+searchGiven S room (finds steps tries) = foundGiven (S .table) steps tries room (check S steps)
+searchGiven S room (finds-none tries) = refused Status.noneFound 0 tries
+searchGiven S room (runs-out tries) = refused Status.ranOut 0 tries
 
--- statuses 4 to 9: the file's own refusal
-unfoldable pub ifAccepted : Judgement → Given → Given
-ifAccepted j given = cond (eqb (j .status) 0) given (refused (j .status) (j .place) 0)
+-- a call that a check of input refuses
+abbrev pub refusedBy : Fault → Given
+refusedBy fault = refused (fault .status) (fault .place) 0
 
--- The checks run 1 to 9: 1, work buffer under 16,384 words; 2, search only: proof buffer under 199 words; 3, bound over 32.
-unfoldable pub searchCall : List ℕ → ℕ → ℕ → ℕ → ℕ → ℕ → Given
-searchCall file bound budget proofRoom answerRoom workRoom =
-    cond (ltb workRoom 16384) (refused 1 0 0)
-    (cond (ltb proofRoom 199) (refused 2 0 0)
-    (cond (ltb 32 bound) (refused 3 0 0)
-    (ifAccepted (judge file) (searchGiven (tableIn file) bound answerRoom (searchFor (tableIn file) bound budget)))))
+-- What a search is asked: the file, the bound, the budget, and how many words of proof, answer and work it is lent.
+pub record SearchAsked : Type 0 where
+  pub file : List ℕ
+  pub bound : ℕ
+  pub budget : ℕ
+  pub proofRoom : ℕ
+  pub answerRoom : ℕ
+  pub workRoom : ℕ
 
-unfoldable pub checkCall : List ℕ → ℕ → List ℕ → ℕ → ℕ → Given
-checkCall file bound offered answerRoom workRoom =
-    cond (ltb workRoom 16384) (refused 1 0 0)
-    (cond (ltb 32 bound) (refused 3 0 0)
-    (ifAccepted (judge file) (checkGiven (tableIn file) (length offered) answerRoom (check (tableIn file) bound (map stepOf offered)))))
+abbrev pub searchInputs : SearchAsked → Inputs
+searchInputs a = record { bound = a .bound; work = a .workRoom; proof = a .proofRoom; least = 199 }
+
+-- document 01's rules over the file's table within the bound
+abbrev pub searchSetting : SearchAsked → Setting
+searchSetting a = base (tableIn (a .file)) (a .bound)
+
+unfoldable pub searchCall : SearchAsked → Given
+searchCall a =
+    behind (firstFault (checks (a .file) (searchInputs a))) refusedBy
+    (searchGiven (searchSetting a) (a .answerRoom) (searchFor (searchSetting a) (a .budget)))
+
+-- What a check of a proof is asked: no budget, and the offered proof in place of a proof buffer.
+pub record CheckAsked : Type 0 where
+  pub file : List ℕ
+  pub bound : ℕ
+  pub offered : List ℕ
+  pub answerRoom : ℕ
+  pub workRoom : ℕ
+
+abbrev pub checkInputs : CheckAsked → Inputs
+checkInputs a = record { bound = a .bound; work = a .workRoom; proof = 0; least = 0 }
+
+abbrev pub checkSetting : CheckAsked → Setting
+checkSetting a = base (tableIn (a .file)) (a .bound)
+
+unfoldable pub checkCall : CheckAsked → Given
+checkCall a =
+    behind (firstFault (checks (a .file) (checkInputs a))) refusedBy
+    (checkGiven (tableIn (a .file)) (length (a .offered)) (a .answerRoom) (check (checkSetting a) (map stepOf (a .offered))))
+
+-- as the buffers are lent
+abbrev pub searchWith : List ℕ → ℕ → ℕ → List ℕ → List ℕ → List ℕ → SearchAsked
+searchWith file bound budget proof answer work =
+    record { file = file; bound = bound; budget = budget; proofRoom = length proof; answerRoom = length answer; workRoom = length work }
+
+abbrev pub checkWith : List ℕ → ℕ → List ℕ → List ℕ → List ℕ → CheckAsked
+checkWith file bound offered answer work =
+    record { file = file; bound = bound; offered = offered; answerRoom = length answer; workRoom = length work }
 
 -- on 0 the proof and answer stand at the front of their buffers, later words unchanged; on other statuses neither buffer changes
 abbrev pub atFront : List ℕ → List ℕ → List ℕ
 atFront words buffer = words ++ drop (length words) buffer
-
--- status 1 leaves all buffers unchanged; all others leave the first 16,384 work words zero and the rest unchanged
-unfoldable pub workAfter : List ℕ → List ℕ
-workAfter work = cond (ltb (length work) 16384) work (replicate 16384 0 ++ drop 16384 work)

@@ -1,5 +1,9 @@
-// The public calls: checks of input first, then the work on lent words, which are zero at the end.
+// The public calls: through the door, then the work on lent words.
 use crate::Outcome;
+use crate::door;
+use crate::door::Entry;
+use crate::door::Inputs;
+use crate::status;
 use engine::answer;
 use engine::answer::Room;
 use engine::check;
@@ -9,29 +13,26 @@ use engine::search::Ending;
 use unification::memory;
 use words::fields;
 ghost use mathlib.Core.Path.{_≡_};
-ghost use mathlib.Core.List.{[], _++_, map};
+ghost use mathlib.Core.List.{[], map};
 ghost use Prim.Native.Nat.{_≤_};
 ghost use lib.Dec.{leb};
-ghost use lib.ListN.{length, take, drop, replicate};
+ghost use lib.ListN.{length, take, drop};
 ghost use Rattle.words.specs.Steps.{stepOf};
 ghost use Rattle.table.specs.File.{tableIn};
-ghost use Rattle.rules.specs.Play.{check, searchFor};
+ghost use Rattle.rules.specs.Machinery.Play.{check, searchFor};
+ghost use Rattle.rules.specs.Setting.{base};
 ghost use Rattle.unification.specs.State.{copiesOf, ClauseAt};
 ghost use Rattle.unification.specs.Good.{Good};
 ghost use Rattle.tableaux.specs.Leaves.{questionsAmong};
 ghost use Rattle.engine.specs.Writing.{answerHeld};
-ghost use Rattle.hukolearu.specs.Calls.{refused, granted, roomOf, searchGiven, checkGiven, searchCall, checkCall, atFront, workAfter};
+ghost use Rattle.hukolearu.specs.Door.{workAfter};
+ghost use Rattle.hukolearu.specs.Calls.{refused, granted, roomOf, searchGiven, checkGiven, searchCall, searchWith, checkCall, checkWith, atFront};
 ghost use Rattle.hukolearu.specs.Telling.{Told, Passed, Answerable, Writable, held};
 
-// The first work words, so many as the inside was lent, are zero.
-fn wipe(work: &mut [u32])
-    requires { ⌜ 16384 ≤ length (now work) ⌝ }
-    ensures { λ _. ⌜ now (work .exit) ≡ replicate 16384 0 ++ drop 16384 (now (work .entry)) ⌝ }
-{
-    memory::clear(work, 0, memory::ROOM);
-}
+// A search's longest proof.
+pub const LONGEST_PROOF: usize = 199;
 
-fn refused(status: u32, place: u32, tries: u32) -> Outcome
+pub fn refused(status: u32, place: u32, tries: u32) -> Outcome
     ensures { λ r. ⌜ r ≡ refused status place tries .outcome ⌝ }
 {
     Outcome {
@@ -79,7 +80,7 @@ fn granted(
 {
     let written = answer::write(file, work, answer, question);
     Outcome {
-        status: 0,
+        status: status::DONE,
         place: 0,
         proof,
         disjuncts: written.disjuncts,
@@ -114,13 +115,14 @@ fn found(
     ensures { λ r. ⌜ Told (held (now (file .entry)) (now (work .entry)) question steps (take steps (drop 1984 (now (work .entry)))) tries (length (now (answer .entry)))) r (now (proof .entry)) (now (proof .exit)) (now (answer .entry)) (now (answer .exit)) ⌝ }
 {
     if !fits(file, work, question, answer.len()) {
-        return refused(16, 0, tries);
+        return refused(status::ANSWER_TOO_LONG, 0, tries);
     }
     copy_steps(work, proof, steps);
     granted(file, work, answer, question, steps, tries)
 }
 
-fn searched(
+// A search past the door.
+pub fn searched(
     file: &[u32],
     question: u32,
     bound: u32,
@@ -130,21 +132,20 @@ fn searched(
     work: &mut [u32],
 ) -> Outcome
     requires { ⌜ Passed (now file) (now work) question bound × (199 ≤ length (now proof)) ⌝ }
-    ensures { λ r. ⌜ Told (searchGiven (tableIn (now (file .entry))) bound (length (now (answer .entry))) (searchFor (tableIn (now (file .entry))) bound budget)) r (now (proof .entry)) (now (proof .exit)) (now (answer .entry)) (now (answer .exit)) ⌝ }
+    ensures { λ r. ⌜ Told (searchGiven (base (tableIn (now (file .entry))) bound) (length (now (answer .entry))) (searchFor (base (tableIn (now (file .entry))) bound) budget)) r (now (proof .entry)) (now (proof .exit)) (now (answer .entry)) (now (answer .exit)) ⌝ }
 {
     let ended = search::find(file, work, question, bound, budget);
     let ending = ended.ending;
     let left = ended.left;
     let steps = ended.steps;
     match ending {
-        Ending::Nothing => refused(10, 0, budget - left),
-        Ending::Out => refused(11, 0, budget),
+        Ending::Nothing => refused(status::NONE_FOUND, 0, budget - left),
+        Ending::Out => refused(status::RAN_OUT, 0, budget),
         Ending::Found => found(file, question, steps, budget - left, proof, answer, work),
     }
 }
 
-// The checks of input from the second on, and the search.
-fn searching(
+pub fn search(
     file: &[u32],
     bound: u32,
     budget: u32,
@@ -152,57 +153,37 @@ fn searching(
     answer: &mut [u32],
     work: &mut [u32],
 ) -> Outcome
-    requires { ⌜ length (now work) ≡ 16384 ⌝ }
-    ensures { λ r. ⌜ Told (searchCall (now (file .entry)) bound budget (length (now (proof .entry))) (length (now (answer .entry))) 16384) r (now (proof .entry)) (now (proof .exit)) (now (answer .entry)) (now (answer .exit)) ⌝ }
-{
-    if proof.len() < 199 {
-        return refused(2, 0, 0);
-    }
-    if 32 < bound {
-        return refused(3, 0, 0);
-    }
-    let judged = table::file::judge(file);
-    if judged.status != 0 {
-        return refused(judged.status, judged.place, 0);
-    }
-    searched(
-        file,
-        judged.question as u32,
-        bound,
-        budget,
-        proof,
-        answer,
-        work,
-    )
-}
-
-#[no_mangle]
-pub extern "C" fn search(
-    file: &[u32],
-    bound: u32,
-    budget: u32,
-    proof: &mut [u32],
-    answer: &mut [u32],
-    work: &mut [u32],
-) -> Outcome
-    ensures { λ r. ⌜ r ≡ searchCall (now (file .entry)) bound budget (length (now (proof .entry))) (length (now (answer .entry))) (length (now (work .entry))) .outcome ⌝ }
-    ensures { λ _. ⌜ now (proof .exit) ≡ atFront (searchCall (now (file .entry)) bound budget (length (now (proof .entry))) (length (now (answer .entry))) (length (now (work .entry))) .proof) (now (proof .entry)) ⌝ }
-    ensures { λ _. ⌜ now (answer .exit) ≡ atFront (searchCall (now (file .entry)) bound budget (length (now (proof .entry))) (length (now (answer .entry))) (length (now (work .entry))) .answer) (now (answer .entry)) ⌝ }
+    ensures { λ r. ⌜ r ≡ searchCall (searchWith (now (file .entry)) bound budget (now (proof .entry)) (now (answer .entry)) (now (work .entry))) .outcome ⌝ }
+    ensures { λ _. ⌜ now (proof .exit) ≡ atFront (searchCall (searchWith (now (file .entry)) bound budget (now (proof .entry)) (now (answer .entry)) (now (work .entry))) .proof) (now (proof .entry)) ⌝ }
+    ensures { λ _. ⌜ now (answer .exit) ≡ atFront (searchCall (searchWith (now (file .entry)) bound budget (now (proof .entry)) (now (answer .entry)) (now (work .entry))) .answer) (now (answer .entry)) ⌝ }
     ensures { λ _. ⌜ now (work .exit) ≡ workAfter (now (work .entry)) ⌝ }
 {
-    if work.len() < memory::ROOM {
-        return refused(1, 0, 0);
-    }
-    let outcome = searching(
-        file,
+    let inputs = Inputs {
         bound,
-        budget,
-        proof,
-        answer,
-        &mut work[..memory::ROOM],
-    );
-    wipe(work);
-    outcome
+        work: work.len(),
+        proof: proof.len(),
+        least: LONGEST_PROOF,
+    };
+    let entry = door::enter(file, inputs);
+    match entry {
+        Entry::Refused(status, place) => {
+            door::leave(work);
+            refused(status, place, 0)
+        }
+        Entry::Open(question) => {
+            let outcome = searched(
+                file,
+                question,
+                bound,
+                budget,
+                proof,
+                answer,
+                &mut work[..memory::ROOM],
+            );
+            door::leave(work);
+            outcome
+        }
+    }
 }
 
 // The answer of an accepted proof, if it fits.
@@ -217,12 +198,13 @@ fn accepted(
     ensures { λ r. ⌜ Told (held (now (file .entry)) (now (work .entry)) question steps [] 0 (length (now (answer .entry)))) r [] [] (now (answer .entry)) (now (answer .exit)) ⌝ }
 {
     if !fits(file, work, question, answer.len()) {
-        return refused(16, 0, 0);
+        return refused(status::ANSWER_TOO_LONG, 0, 0);
     }
     granted(file, work, answer, question, steps, 0)
 }
 
-fn checked(
+// A check of a proof past the door.
+pub fn checked(
     file: &[u32],
     question: u32,
     bound: u32,
@@ -231,7 +213,7 @@ fn checked(
     work: &mut [u32],
 ) -> Outcome
     requires { ⌜ Passed (now file) (now work) question bound ⌝ }
-    ensures { λ r. ⌜ Told (checkGiven (tableIn (now (file .entry))) (length (now (offered .entry))) (length (now (answer .entry))) (check (tableIn (now (file .entry))) bound (map stepOf (now (offered .entry))))) r [] [] (now (answer .entry)) (now (answer .exit)) ⌝ }
+    ensures { λ r. ⌜ Told (checkGiven (tableIn (now (file .entry))) (length (now (offered .entry))) (length (now (answer .entry))) (check (base (tableIn (now (file .entry))) bound) (map stepOf (now (offered .entry))))) r [] [] (now (answer .entry)) (now (answer .exit)) ⌝ }
 {
     let verdict = check::run(file, work, question, bound, offered);
     match verdict {
@@ -240,43 +222,40 @@ fn checked(
     }
 }
 
-// The checks of input but for the first, and the check of the proof.
-fn checking(
+pub fn check_proof(
     file: &[u32],
     bound: u32,
     offered: &[u32],
     answer: &mut [u32],
     work: &mut [u32],
 ) -> Outcome
-    requires { ⌜ length (now work) ≡ 16384 ⌝ }
-    ensures { λ r. ⌜ Told (checkCall (now (file .entry)) bound (now (offered .entry)) (length (now (answer .entry))) 16384) r [] [] (now (answer .entry)) (now (answer .exit)) ⌝ }
-{
-    if 32 < bound {
-        return refused(3, 0, 0);
-    }
-    let judged = table::file::judge(file);
-    if judged.status != 0 {
-        return refused(judged.status, judged.place, 0);
-    }
-    checked(file, judged.question as u32, bound, offered, answer, work)
-}
-
-#[no_mangle]
-pub extern "C" fn check_proof(
-    file: &[u32],
-    bound: u32,
-    offered: &[u32],
-    answer: &mut [u32],
-    work: &mut [u32],
-) -> Outcome
-    ensures { λ r. ⌜ r ≡ checkCall (now (file .entry)) bound (now (offered .entry)) (length (now (answer .entry))) (length (now (work .entry))) .outcome ⌝ }
-    ensures { λ _. ⌜ now (answer .exit) ≡ atFront (checkCall (now (file .entry)) bound (now (offered .entry)) (length (now (answer .entry))) (length (now (work .entry))) .answer) (now (answer .entry)) ⌝ }
+    ensures { λ r. ⌜ r ≡ checkCall (checkWith (now (file .entry)) bound (now (offered .entry)) (now (answer .entry)) (now (work .entry))) .outcome ⌝ }
+    ensures { λ _. ⌜ now (answer .exit) ≡ atFront (checkCall (checkWith (now (file .entry)) bound (now (offered .entry)) (now (answer .entry)) (now (work .entry))) .answer) (now (answer .entry)) ⌝ }
     ensures { λ _. ⌜ now (work .exit) ≡ workAfter (now (work .entry)) ⌝ }
 {
-    if work.len() < memory::ROOM {
-        return refused(1, 0, 0);
+    let inputs = Inputs {
+        bound,
+        work: work.len(),
+        proof: 0,
+        least: 0,
+    };
+    let entry = door::enter(file, inputs);
+    match entry {
+        Entry::Refused(status, place) => {
+            door::leave(work);
+            refused(status, place, 0)
+        }
+        Entry::Open(question) => {
+            let outcome = checked(
+                file,
+                question,
+                bound,
+                offered,
+                answer,
+                &mut work[..memory::ROOM],
+            );
+            door::leave(work);
+            outcome
+        }
     }
-    let outcome = checking(file, bound, offered, answer, &mut work[..memory::ROOM]);
-    wipe(work);
-    outcome
 }

@@ -1,5 +1,7 @@
 // The public calls: a search, and the check of an offered proof.
 pub mod calls;
+pub mod door;
+pub mod status;
 
 // What every search and every check of a proof returns; numbers not named are 0.
 #[repr(C)]

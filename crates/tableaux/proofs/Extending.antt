@@ -16,7 +16,7 @@ use Rattle.rules.specs.Substitution.{Variable}
 use Rattle.rules.specs.Tableau.{atom, Leaf}
 use Rattle.rules.specs.Tableau as tableau
 use Rattle.rules.proofs.Unify.Tests.{decide}
-use Rattle.rules.specs.Unify.{Unified, made, unify}
+use Rattle.rules.specs.Machinery.Unify.{Unified, made, unify}
 use Rattle.unification.specs.State.{startAt, copiesOf, stepAt, literalAtReference, bound}
 use Rattle.unification.specs.Good.{wordAt, LiteralStands, Alike as AlikeAt, Good, Outcome, Met}
 use Rattle.tableaux.specs.Leaves.{leafAt, leavesFrom, hung}

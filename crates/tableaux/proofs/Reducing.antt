@@ -6,7 +6,7 @@ use native.Mathlib.Omega.{arith}
 use lib.ListN.{getD, set, length-set}
 use lib.Seq.{getD-set-same, getD-set-other}
 use Rattle.rules.specs.Tableau.{atom}
-use Rattle.rules.specs.Unify.{unify}
+use Rattle.rules.specs.Machinery.Unify.{unify}
 use Rattle.unification.specs.State.{copiesOf, countOf, stepAt, literalAtReference, bound}
 use Rattle.unification.specs.Good.{LiteralStands, Alike as AlikeAt, Good, Met}
 use Rattle.tableaux.specs.Leaves.{leavesFrom}

@@ -10,7 +10,7 @@ use Rattle.words.specs.Fields.{symbolOf, arityOf}
 use Rattle.table.specs.Decode.{clauseOf}
 use Rattle.rules.specs.Tableau.{Leaf, Tableau, atom, copyOf}
 use Rattle.rules.specs.Tableau as tableau
-use Rattle.rules.specs.Unify.{Bindings, unify}
+use Rattle.rules.specs.Machinery.Unify.{Bindings, unify}
 use Rattle.unification.specs.State.{startAt, copiesOf, countOf, trailAt, boundAt, literalAt, parentAt, nextAt, stepAt, markAt, ownWords, ClauseAt, literalAtReference, bound}
 use Rattle.unification.specs.Good.{wordAt, LiteralStands, Good, Outcome}
 use Rattle.tableaux.specs.Leaves.{literalOfLeaf, leafAt, leavesFrom, questionsAmong, offsetsAt, hanging, hung}

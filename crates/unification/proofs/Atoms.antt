@@ -13,7 +13,7 @@ use Rattle.table.specs.Syntax.{Terms, nil, _then_, app, arity, literalUnder}
 use Rattle.table.specs.Reading.{fault}
 use Rattle.table.specs.Decode.{first, termsFrom}
 use Rattle.rules.specs.Tableau.{fresh, atom}
-use Rattle.rules.specs.Unify.{unify, unifies}
+use Rattle.rules.specs.Machinery.Unify.{unify, unifies}
 use Rattle.rules.proofs.Unify.Tests.{decide}
 use Rattle.rules.proofs.Unify.Laws.{unify-applied}
 use Rattle.rules.proofs.Unify.Solution.{follow-app}

@@ -8,8 +8,8 @@ use mathlib.Core.Option.{Option, some}
 use mathlib.Core.Path.{_≡_, refl, _∙_, ap, ap₂}
 use native.Mathlib.Omega.{arith}
 use Prim.Native.Nat.{ℕ, zero, suc, _+_, _-_, _/_, _%_, _≤_, _<_}
-use Rattle.rules.specs.Substitution.{Variable}
-use Rattle.rules.specs.Unify.{sameVariable, Bindings}
+use Rattle.rules.specs.Substitution.{Variable, sameVariable}
+use Rattle.rules.specs.Machinery.Unify.{Bindings}
 use Rattle.rules.proofs.Unify.Tests.{never, decide, same-true, same-refl, differ}
 use Rattle.rules.proofs.Unify.Solution as bindings
 use Rattle.rules.proofs.Unify.Following.{valueOf}

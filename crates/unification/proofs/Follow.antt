@@ -8,7 +8,7 @@ use native.Mathlib.Omega.{arith}
 use Prim.Native.Nat.{ℕ, zero, suc, _-_, _<_}
 use Rattle.words.specs.Fields.{kindOf}
 use Rattle.table.specs.Syntax.{var}
-use Rattle.rules.specs.Unify.{follow}
+use Rattle.rules.specs.Machinery.Unify.{follow}
 use Rattle.rules.proofs.Unify.Solution.{follow-app, follow-unbound}
 use Rattle.rules.proofs.Unify.Following.{valueOf, follow-value}
 use Rattle.unification.specs.State.{boundAt, Points, termOf, variableOf, bound}

@@ -11,7 +11,7 @@ use Rattle.words.specs.Fields.{kindOf, arityOf}
 use Rattle.table.specs.Syntax.{under, unders}
 use Rattle.table.specs.Decode.{first, rest}
 use Rattle.rules.specs.Substitution.{Variable}
-use Rattle.rules.specs.Unify.{solution, height, doubled}
+use Rattle.rules.specs.Machinery.Unify.{solution, height, doubled}
 use Rattle.rules.proofs.Unify.Tests.{decide}
 use Rattle.rules.proofs.Unify.Heights.{heights-under, solution-height, doubled-mono}
 use Rattle.unification.specs.State.{countOf, Points, termOf, termsOf, bindingsOf, bound}

@@ -6,7 +6,7 @@ use Prim.Native.Nat.{ℕ, zero, suc, _+_}
 use Rattle.table.specs.Syntax.{Terms, app, nil, _then_, arity}
 use Rattle.table.specs.Decode.{first, rest}
 use Rattle.rules.specs.Substitution.{Variable}
-use Rattle.rules.specs.Unify.{Bindings, Unified, made, clash, circle, after, unify, unifies}
+use Rattle.rules.specs.Machinery.Unify.{Bindings, Unified, made, clash, circle, after, unify, unifies}
 use Rattle.rules.proofs.Unify.{unify-answers}
 use Rattle.rules.proofs.Unify.Laws.{unifies-nil, unifies-then, unify-applied}
 use Rattle.rules.proofs.Unify.Solution.{Good, follow-app}

@@ -11,7 +11,7 @@ use Rattle.words.proofs.Packed.{function-word}
 use Rattle.table.specs.Syntax.{Term, Terms, var, app, under, unders}
 use Rattle.table.specs.Decode.{first}
 use Rattle.rules.specs.Substitution.{Variable}
-use Rattle.rules.specs.Unify.{Unified, made, solution, follow, bind, unify, unifies, height, heightAmong}
+use Rattle.rules.specs.Machinery.Unify.{Unified, made, solution, follow, bind, unify, unifies, height, heightAmong}
 use Rattle.rules.proofs.Unify.{unify-answers}
 use Rattle.rules.proofs.Unify.Tests.{decide, never}
 use Rattle.rules.proofs.Unify.Laws.{unify-same, unify-right, unify-left, unify-applied, unify-clash, unify-arity}

@@ -6,7 +6,7 @@ use Prim.Native.Nat.{ℕ, suc, _+_, _*_, _-_, _≤_, _<_}
 use Rattle.words.specs.Fields.{kindOf, symbolOf, arityOf}
 use Rattle.table.specs.Syntax.{app, _then_, arity}
 use Rattle.table.specs.Decode.{first, rest}
-use Rattle.rules.specs.Unify.{Unified, made, after, unify, unifies}
+use Rattle.rules.specs.Machinery.Unify.{Unified, made, after, unify, unifies}
 use Rattle.rules.proofs.Unify.Laws.{unifies-nil, unifies-then}
 use Rattle.unification.specs.State.{Points, termOf, termsOf, bound}
 use Rattle.unification.specs.Good.{wordAt, argumentsOf, Inside, Ahead, Good, Grown, Passed, Outcome}

@@ -6,7 +6,7 @@ use mathlib.Core.Path.{_≡_, sym, _∙_, ap}
 use native.Mathlib.Omega.{arith}
 use Prim.Native.Nat.{ℕ, _+_, _≤_, _<_}
 use Rattle.table.specs.Syntax.{under}
-use Rattle.rules.specs.Unify.{made, solution, unify}
+use Rattle.rules.specs.Machinery.Unify.{made, solution, unify}
 use Rattle.rules.proofs.Unify.{unify-answers}
 use Rattle.rules.proofs.Unify.Solution.{solution-satisfies}
 use Rattle.unification.specs.State.{termOf, bound}

@@ -13,7 +13,7 @@ use Rattle.words.specs.Fields.{kindOf}
 use Rattle.table.specs.Syntax.{var, under}
 use Rattle.table.specs.Decode.{first}
 use Rattle.rules.specs.Substitution.{Variable}
-use Rattle.rules.specs.Unify.{Bindings, solution, occurs, variables, variablesAmong}
+use Rattle.rules.specs.Machinery.Unify.{Bindings, solution, occurs, variables, variablesAmong}
 use Rattle.rules.proofs.Unify.Tests.{decide, never, same-refl}
 use Rattle.rules.proofs.Unify.Solution.{unbound-solution}
 use Rattle.rules.proofs.Unify.Following.{valueOf, solution-value}

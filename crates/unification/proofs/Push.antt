@@ -7,7 +7,7 @@ use mathlib.Core.Path.{_≡_, refl, sym, _∙_}
 use native.Mathlib.Numerals.{add-one}
 use native.Mathlib.Omega.{arith}
 use Prim.Native.Nat.{ℕ, suc, _+_, _-_, _<_, _≤_}
-use Rattle.rules.specs.Unify.{bind}
+use Rattle.rules.specs.Machinery.Unify.{bind}
 use Rattle.rules.proofs.Unify.Laws.{bind-made, bind-circle}
 use Rattle.unification.specs.State.{copiesOf, countOf, trailAt, boundAt, termOf, variableOf, bound}
 use Rattle.unification.specs.Good.{Same, Good, Kept, Grown, pushed, Binds, Met, occursUnder}

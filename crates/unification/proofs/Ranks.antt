@@ -7,8 +7,8 @@ use native.Mathlib.Omega.{arith}
 use Prim.Native.Nat.{ℕ, zero, suc, _+_, _*_, _≤_, _<_}
 use lib.ListN.{length}
 use Rattle.table.specs.Syntax.{Term, var, app, under, unders}
-use Rattle.rules.specs.Substitution.{Variable}
-use Rattle.rules.specs.Unify.{sameVariable, Bindings, solution, height, heightAmong, variables, variablesAmong}
+use Rattle.rules.specs.Substitution.{Variable, sameVariable}
+use Rattle.rules.specs.Machinery.Unify.{Bindings, solution, height, heightAmong, variables, variablesAmong}
 use Rattle.rules.proofs.Unify.Solution.{Good}
 use Rattle.rules.proofs.Unify.Following.{valueOf, solution-value, onward, distance, distance-falls}
 use Rattle.unification.proofs.TermLists.{All, all-map, among-height}

@@ -16,7 +16,7 @@ use Rattle.table.specs.Decode.{first, rest, headTerm, termsFrom}
 use Rattle.table.proofs.Bools.{and-left}
 use Rattle.rules.specs.Substitution.{Variable}
 use Rattle.rules.specs.Tableau.{fresh}
-use Rattle.rules.specs.Unify.{variables, variablesAmong, height, heightAmong}
+use Rattle.rules.specs.Machinery.Unify.{variables, variablesAmong, height, heightAmong}
 use Rattle.unification.specs.State.{startAt, copiesOf, ownWords, ClauseAt, wordsAt, termsOf, termOf, Owing, Points, variableOf}
 use Rattle.unification.specs.Good.{wordAt, variableAt, argumentsOf, variablesHere, Inside, Ahead}
 use Rattle.unification.proofs.TermLists.{rest-rest, arity-first, arity-under, first-under, rest-under, variables-first}

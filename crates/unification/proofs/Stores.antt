@@ -8,7 +8,7 @@ use mathlib.Core.Path.{_≡_, refl, sym, _∙_}
 use native.Mathlib.Omega.{arith}
 use Prim.Native.Nat.{ℕ, zero, suc, _+_, _-_, _/_, _≤_, _<_}
 use Rattle.table.specs.Syntax.{under}
-use Rattle.rules.specs.Unify.{Binding, solution, occurs}
+use Rattle.rules.specs.Machinery.Unify.{Binding, solution, occurs}
 use Rattle.rules.proofs.Unify.Tests.{never, decide, same-refl}
 use Rattle.rules.proofs.Unify.Solution as bindings
 use Rattle.unification.specs.State.{startAt, copiesOf, trailAt, boundAt, ClauseAt, termOf, Points, variableOf, bindingsOf, bound}

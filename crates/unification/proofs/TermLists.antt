@@ -8,7 +8,7 @@ use Prim.Native.Nat.{ℕ, zero, suc, _+_, _-_, _≤_, _<_, max}
 use Rattle.table.specs.Syntax.{Term, Terms, var, app, nil, _then_, arity, under, unders}
 use Rattle.table.specs.Decode.{first, rest}
 use Rattle.rules.specs.Substitution.{Variable, Substitution}
-use Rattle.rules.specs.Unify.{occurs, occursAmong, height, heightAmong, variables, variablesAmong}
+use Rattle.rules.specs.Machinery.Unify.{occurs, occursAmong, height, heightAmong, variables, variablesAmong}
 use Rattle.unification.specs.Good.{occursIn}
 
 module _ {X : Type 0} where

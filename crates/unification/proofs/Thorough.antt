@@ -11,7 +11,7 @@ use native.Mathlib.Omega.{arith}
 use Prim.Native.Nat.{ℕ, zero, suc, _+_, _-_, _≤_, _<_}
 use Rattle.table.specs.Syntax.{Term, under}
 use Rattle.rules.specs.Substitution.{Variable}
-use Rattle.rules.specs.Unify.{Binding, Bindings, replace, solution}
+use Rattle.rules.specs.Machinery.Unify.{Binding, Bindings, replace, solution}
 use Rattle.rules.proofs.Substitution.{same, under-under}
 use Rattle.rules.proofs.Unify.Tests.{decide}
 use Rattle.unification.specs.State.{countOf, termOf, bindingsOf, bound}

@@ -10,7 +10,7 @@ use Prim.Native.Nat.{ℕ, zero, suc, _+_, _/_, _%_, _≤_, _<_}
 use Rattle.words.specs.Fields.{arityOf}
 use Rattle.table.specs.Decode.{first}
 use Rattle.rules.specs.Tableau.{atom}
-use Rattle.rules.specs.Unify.{Unified, unify}
+use Rattle.rules.specs.Machinery.Unify.{Unified, unify}
 use Rattle.rules.proofs.Unify.Tests.{decide}
 use Rattle.unification.specs.State.{startAt, countOf, termsOf, literalAtReference, bindingsOf, bound}
 use Rattle.unification.specs.Good.{wordAt, Inside, Same, Good, Grown, Ahead, Alike, Met, Undone}

@@ -9,7 +9,7 @@ use Prim.Native.Nat.{ℕ, _+_, _-_, _<_}
 use Rattle.words.specs.Fields.{kindOf, arityOf}
 use Rattle.table.specs.Syntax.{var, under}
 use Rattle.table.specs.Decode.{first}
-use Rattle.rules.specs.Unify.{bind, occurs}
+use Rattle.rules.specs.Machinery.Unify.{bind, occurs}
 use Rattle.rules.proofs.Unify.Tests.{decide, differ}
 use Rattle.rules.proofs.Unify.Solution.{isBound, Followed, unbound-solution}
 use Rattle.unification.specs.State.{boundAt, termOf, variableOf, bound}

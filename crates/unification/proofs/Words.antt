@@ -15,7 +15,7 @@ use Rattle.table.specs.Reading.{variableFits, termArity, afterTerm, afterLitera
 use Rattle.table.specs.Decode.{first, rest, before, termsFrom}
 use Rattle.table.proofs.Bools.{and-left, and-right}
 use Rattle.rules.specs.Tableau.{fresh}
-use Rattle.rules.specs.Unify.{height, heightAmong}
+use Rattle.rules.specs.Machinery.Unify.{height, heightAmong}
 use Rattle.unification.specs.State.{Owing}
 use Rattle.unification.proofs.TermLists.{arity-rest, first-under, rest-under, height-first, height-rest}
 

@@ -11,7 +11,7 @@ use Rattle.table.specs.Syntax.{Term, under}
 use Rattle.table.specs.Reading.{fault}
 use Rattle.table.specs.Decode.{rest}
 use Rattle.rules.specs.Substitution.{Variable, Substitution}
-use Rattle.rules.specs.Unify.{Unified, made, clash, circle, follow, occurs, solution}
+use Rattle.rules.specs.Machinery.Unify.{Unified, made, clash, circle, follow, occurs, solution}
 use Rattle.rules.proofs.Unify.Solution as bindings
 use Rattle.unification.specs.State.{startAt, copiesOf, countOf, trailAt, boundAt, ClauseAt, wordsAt, termsOf, termOf, Points, variableOf, bindingsOf, bound}
 use Rattle.unification.specs.declared.unify.Meeting.{Meeting}

@@ -10,7 +10,7 @@ use Rattle.table.specs.Reading.{fault, clauseFault}
 use Rattle.table.specs.Decode.{termsFrom, headTerm, literalOf}
 use Rattle.rules.specs.Substitution.{Variable}
 use Rattle.rules.specs.Tableau.{fresh}
-use Rattle.rules.specs.Unify.{Bindings}
+use Rattle.rules.specs.Machinery.Unify.{Bindings}
 
 -- The regions of the work words (docs/MEMORY.md): copies, bindings, leaves, steps, marks.
 abbrev pub startAt : List ℕ → ℕ → ℕ

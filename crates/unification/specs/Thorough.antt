@@ -7,7 +7,7 @@ use lib.ListN.{length, getD}
 use Rattle.words.specs.Fields.{arityOf}
 use Rattle.table.specs.Syntax.{var, under}
 use Rattle.table.specs.Decode.{first}
-use Rattle.rules.specs.Unify.{Unified, occurs, solution, unify, unifies}
+use Rattle.rules.specs.Machinery.Unify.{Unified, occurs, solution, unify, unifies}
 use Rattle.unification.specs.State.{countOf, boundAt, Points, termOf, termsOf, variableOf, bound}
 use Rattle.unification.specs.Good.{wordAt, Inside, Ahead, Alike, Good, Grown, Outcome}
 use Rattle.unification.specs.declared.unify.Meeting.{Meeting}

@@ -9,7 +9,7 @@ ghost use Prim.Native.Nat.{ℕ, _+_, _≤_, _<_};
 ghost use lib.ListN.{set};
 ghost use Rattle.words.specs.Fields.{kindOf};
 ghost use Rattle.rules.specs.Tableau.{atom};
-ghost use Rattle.rules.specs.Unify.{solution, bind, unify};
+ghost use Rattle.rules.specs.Machinery.Unify.{solution, bind, unify};
 ghost use Rattle.unification.specs.State.{Points, termOf, literalAtReference, boundAt, countOf, variableOf, bound};
 ghost use Rattle.unification.specs.Good.{Good, Alike, Binds, Met, Undone, wordAt, namesVariable, occursIn, occursUnder, variablesHere};
 ghost use Rattle.unification.specs.Thorough.{spareOf, linkAt, markAt, Down, Rooted, Valued, Spent, Quiet, Checking, Other, Looked, Meets, Arguments, Applied, argumentsMet, Began};

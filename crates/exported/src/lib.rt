@@ -1,0 +1,38 @@
+// Every public call for C, in one archive: the same names with a prefix, the same arguments in the same order, the same contracts.
+use hukolearu::Outcome;
+use hukolearu::calls;
+ghost use mathlib.Core.Path.{_≡_};
+ghost use Rattle.hukolearu.specs.Door.{workAfter};
+ghost use Rattle.hukolearu.specs.Calls.{searchCall, searchWith, checkCall, checkWith, atFront};
+
+#[no_mangle]
+pub extern "C" fn hukolearu_search(
+    file: &[u32],
+    bound: u32,
+    budget: u32,
+    proof: &mut [u32],
+    answer: &mut [u32],
+    work: &mut [u32],
+) -> Outcome
+    ensures { λ r. ⌜ r ≡ searchCall (searchWith (now (file .entry)) bound budget (now (proof .entry)) (now (answer .entry)) (now (work .entry))) .outcome ⌝ }
+    ensures { λ _. ⌜ now (proof .exit) ≡ atFront (searchCall (searchWith (now (file .entry)) bound budget (now (proof .entry)) (now (answer .entry)) (now (work .entry))) .proof) (now (proof .entry)) ⌝ }
+    ensures { λ _. ⌜ now (answer .exit) ≡ atFront (searchCall (searchWith (now (file .entry)) bound budget (now (proof .entry)) (now (answer .entry)) (now (work .entry))) .answer) (now (answer .entry)) ⌝ }
+    ensures { λ _. ⌜ now (work .exit) ≡ workAfter (now (work .entry)) ⌝ }
+{
+    calls::search(file, bound, budget, proof, answer, work)
+}
+
+#[no_mangle]
+pub extern "C" fn hukolearu_check_proof(
+    file: &[u32],
+    bound: u32,
+    offered: &[u32],
+    answer: &mut [u32],
+    work: &mut [u32],
+) -> Outcome
+    ensures { λ r. ⌜ r ≡ checkCall (checkWith (now (file .entry)) bound (now (offered .entry)) (now (answer .entry)) (now (work .entry))) .outcome ⌝ }
+    ensures { λ _. ⌜ now (answer .exit) ≡ atFront (checkCall (checkWith (now (file .entry)) bound (now (offered .entry)) (now (answer .entry)) (now (work .entry))) .answer) (now (answer .entry)) ⌝ }
+    ensures { λ _. ⌜ now (work .exit) ≡ workAfter (now (work .entry)) ⌝ }
+{
+    calls::check_proof(file, bound, offered, answer, work)
+}
