@@ -5,8 +5,9 @@ A case is a file of words in data/, and a line of stdout: name, status, place, t
 fingerprint of clause 1. Every case states the status and place that its maker had in mind; `judge` below, a second reading of the document,
 has to agree with them.
 """
-import pathlib
 import struct
+
+from lib.kept import keep
 
 VARIABLE, FUNCTION, LITERAL, CLAUSE = range(4)
 
@@ -269,16 +270,17 @@ case("9-fact-asked", file(FACT), 9)
 case("9-second-of-two", file(FACT, clause(2, 0, neg(1), lit(2))), 9)
 case("9-first-of-two", file(ASK, clause(2, 1, lit(1, 1), var(0), neg(1))), 9)
 
-crate = pathlib.Path(__file__).resolve().parent.parent / "crates" / "file_cases"
-data = crate / "data"
-data.mkdir(parents=True, exist_ok=True)
-for old in data.iterdir():
-    old.unlink()
-for name, (words, _, _) in CASES.items():
-    (data / name).write_bytes(struct.pack(f"<{len(words)}I", *words))
-(crate / "args").write_text("".join(f"{name}\n" for name in CASES))
-with open(crate / "stdout", "w") as out:
-    for name, (words, status, place) in CASES.items():
-        lengths = " ".join(str(len(lookup(words, number))) for number in (0, 1, 511, 512))
-        print(f"{name} status {status} place {place} clauses {lengths} second {fingerprint(lookup(words, 1)):08x}", file=out)
-print(len(CASES), "cases")
+
+def line(name, words, status, place):
+    lengths = " ".join(str(len(lookup(words, number))) for number in (0, 1, 511, 512))
+    return f"{name} status {status} place {place} clauses {lengths} second {fingerprint(lookup(words, 1)):08x}\n"
+
+
+keep(
+    {
+        **{f"crates/file_cases/data/{name}": struct.pack(f"<{len(words)}I", *words) for name, (words, _, _) in CASES.items()},
+        "crates/file_cases/args": "".join(f"{name}\n" for name in CASES),
+        "crates/file_cases/stdout": "".join(line(name, *case) for name, case in CASES.items()),
+    },
+    folders=["crates/file_cases/data"],
+)

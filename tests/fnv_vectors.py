@@ -1,6 +1,6 @@
 #!/usr/bin/env python3
 """Writes the input and the expected output of crates/fnv_vectors: published 32-bit FNV-1a vectors, each recomputed here from the algorithm's text."""
-import pathlib
+from lib.kept import keep
 
 PUBLISHED = {
     "": 0x811C9DC5, "a": 0xE40C292C, "b": 0xE70C2DE5, "c": 0xE60C2C52, "d": 0xE10C2473, "e": 0xE00C22E0,
@@ -17,9 +17,10 @@ def fnv1a(data):
     return h
 
 
-crate = pathlib.Path(__file__).resolve().parent.parent / "crates" / "fnv_vectors"
 for text, value in PUBLISHED.items():
     assert fnv1a(text.encode()) == value, text
 lines = [*PUBLISHED, *TEXTS]
-(crate / "stdin").write_bytes("".join(line + "\n" for line in lines).encode())
-(crate / "stdout").write_text("".join(f"{fnv1a(line.encode()):08x}\n" for line in lines))
+keep({
+    "crates/fnv_vectors/stdin": "".join(line + "\n" for line in lines),
+    "crates/fnv_vectors/stdout": "".join(f"{fnv1a(line.encode()):08x}\n" for line in lines),
+})

@@ -1,48 +1,13 @@
 #!/usr/bin/env python3
 """Writes tests/hostile.txt: tables that make a careless engine run for ever, one request of the program `calls` a line.
 tests/hostile.out has the results, by an independent engine. Words, trailer and steps are made here from document 01."""
-import pathlib
+from lib.kept import keep
+from lib.questions import Clause, extension, file_of, tower
 
 FULL = 4294967295
 P, Q, R = 1, 2, 3  # predicates
 F, G, S, PAIR, CONS, NIL, ZERO, A, B = range(1, 10)  # functions
 REQUESTS = []
-
-
-def fnv1a(words):
-    h = 0x811C9DC5
-    for word in words:
-        for byte in word.to_bytes(4, "little"):
-            h = (h ^ byte) * 0x01000193 & 0xFFFFFFFF
-    return h
-
-
-class Clause:
-    """Literals are (sign, predicate, terms); a term is a variable's name or (function, terms...)."""
-
-    def __init__(self, *literals):
-        self.names, words = [], []
-        for sign, predicate, *terms in literals:
-            words.append(0x80000000 | (sign == "~") << 15 | len(terms) << 12 | predicate)
-            for term in terms:
-                self.put(term, words)
-        assert len(self.names) <= 16 and len(words) <= 255 and len(literals) <= 7, (len(self.names), len(words))
-        self.words = [0xC0000000 | len(words) << 8 | len(self.names) << 3 | len(literals), *words]
-
-    def put(self, term, words):
-        if isinstance(term, str):
-            if term not in self.names:
-                self.names.append(term)
-            words.append(self.names.index(term))
-            return
-        words.append(0x40000000 | (len(term) - 1) << 12 | term[0])
-        for part in term[1:]:
-            self.put(part, words)
-
-
-def file_of(clauses):
-    body = [word for clause in clauses for word in clause.words]
-    return [*body, len(body) - len(clauses[-1].words), len(clauses), fnv1a(body), len(body)]
 
 
 def hexes(words):
@@ -57,19 +22,9 @@ def check(title, clauses, steps, bound=32, answer=4096):
     REQUESTS.append(f"# {title}: checked\ncheck {bound} 16384 {answer} / {hexes(steps)} / {hexes(file_of(clauses))}")
 
 
-def extension(clause, literal=0):
-    return 0x40000000 | literal << 9 | clause
-
-
 def both(title, clauses, steps, **limits):
     search(title, clauses, **limits)
     check(title, clauses, steps, **limits)
-
-
-def tower(function, height, term):
-    for _ in range(height):
-        term = (function, term)
-    return term
 
 
 def row(terms):
@@ -265,4 +220,4 @@ def many():
 
 for family in (within, two_within, across, compared, crowds, deep, branches, many):
     family()
-pathlib.Path(__file__).with_suffix(".txt").write_text("\n".join(REQUESTS) + "\n")
+keep({"tests/hostile.txt": "\n".join(REQUESTS) + "\n"})

@@ -4,9 +4,9 @@ use mathlib.Core.List.{List}
 use Prim.Native.Nat.{ℕ, _+_, _≤_, _<_, min}
 use native.Mathlib.Omega.{arith}
 use lib.ListN.{length, take, drop, length-drop}
-use Rattle.text.specs.Pieces.{upTo}
+use Rattle.requests.specs.Pieces.{upTo}
 use Rattle.text.proofs.Parts.{part-length}
-use Rattle.text.proofs.Lists.{front-length}
+use Rattle.requests.proofs.Lists.{front-length}
 
 pub lent : (n x m : ℕ) (ws : List ℕ) → n ≡ min x m → m ≡ length ws → n ≡ length (take n ws)
 lent n x m ws e f = part-length n ws (omega arith)

@@ -1,4 +1,5 @@
 // Answers requests from standard input, one a line: every public call, its buffers filled before it and looked over after it.
+// A verb is a row in `answer_request`, a function that makes the call, and its result line in `results`.
 ghost use mathlib.Core.Path.{_≡_};
 ghost use Prim.Native.Nat.{_≤_, _<_, min};
 ghost use lib.ListN.{length};
@@ -6,13 +7,24 @@ use hukolearu::Outcome;
 use hukolearu::calls;
 use libc::STDIN_FILENO;
 use libc::STDOUT_FILENO;
+use requests::piece;
+use requests::request;
+use results::clause;
+use results::outcome;
 use text::part;
-use text::piece;
 use text::put;
-use text::request;
-use text::request::Request;
-use text::result;
 use words::fields::wide;
+
+// The most that a field of a row may be.
+const ANY: u32 = 4294967295;
+
+const FILE: u32 = 16100;
+
+const OFFERED: u32 = 1024;
+
+const PROOF: u32 = 300;
+
+const LONG: u32 = 20000;
 
 fn least(a: usize, b: usize) -> usize
     ensures { λ r. ⌜ r ≡ min a b ⌝ }
@@ -34,46 +46,10 @@ fn line_buffer() -> [u8; 190000]
     [0; 190000]
 }
 
-fn write_outcome(o: Outcome, steps: &[u32], answer: &[u32], intact: bool) {
-    let mut out = line_buffer();
-    let next = result::numbers(
-        &mut out,
-        0,
-        o.status,
-        o.place,
-        o.proof,
-        o.disjuncts,
-        o.answer,
-        o.tries,
-    );
-    let n = result::lists(&mut out, next, steps, answer, intact);
-    write_line(&out, n);
-}
-
-// The words after the proof and after the answer, and the work words, are as they should be.
-fn intact(status: u32, proof: &[u32], answer: &[u32], work: &[u32]) -> bool {
-    if result::work_kept(status, work) {
-        if result::untouched(proof) {
-            return result::untouched(answer);
-        }
-    }
-    false
-}
-
 fn report(o: Outcome, steps: usize, proof: &[u32], answer: &[u32], work: &[u32]) {
-    let words = wide(o.answer);
-    let kept = intact(
-        o.status,
-        part::rest(proof, steps),
-        part::rest(answer, words),
-        work,
-    );
-    write_outcome(
-        o,
-        part::front(proof, steps),
-        part::front(answer, words),
-        kept,
-    );
+    let mut out = line_buffer();
+    let n = outcome::outcome(&mut out, 0, o, steps, proof, answer, work);
+    write_line(&out, n);
 }
 
 fn search(
@@ -149,89 +125,80 @@ fn lend_proof(file: &[u32], bound: u32, budget: u32, proofs: usize, answers: usi
     lend_search(file, bound, budget, &mut proof[..p], answers, works);
 }
 
-fn answer_search(
-    line: &[u8],
-    file: usize,
-    bound: u32,
-    budget: u32,
-    work: u32,
-    proof: u32,
-    answer: u32,
-) {
+fn answer_search(line: &[u8], values: &[usize]) {
     let mut space = file_buffer();
-    let n = piece::gather(line, file, &mut space);
+    let n = piece::gather(line, request::place(values, 5), &mut space);
     lend_proof(
         part::front(&space, n),
-        bound,
-        budget,
-        wide(proof),
-        wide(answer),
-        wide(work),
+        request::word(values, 0),
+        request::word(values, 1),
+        request::place(values, 3),
+        request::place(values, 4),
+        request::place(values, 2),
     );
 }
 
-fn answer_check(line: &[u8], file: usize, offered: usize, bound: u32, work: u32, answer: u32) {
+fn answer_check(line: &[u8], values: &[usize]) {
     let mut space = file_buffer();
-    let n = piece::gather(line, file, &mut space);
+    let n = piece::gather(line, request::place(values, 4), &mut space);
     let mut proof = proof_buffer();
-    let m = piece::gather(line, offered, &mut proof);
+    let m = piece::gather(line, request::place(values, 3), &mut proof);
     lend_check(
         part::front(&space, n),
-        bound,
+        request::word(values, 0),
         part::front(&proof, m),
-        wide(answer),
-        wide(work),
+        request::place(values, 2),
+        request::place(values, 1),
     );
-}
-
-fn count(list: &[u32]) -> u32 {
-    least(list.len(), 4294967295) as u32
-}
-
-fn write_found(start: u32, list: &[u32]) {
-    let mut out = io::buffer();
-    let n = result::found(&mut out, 0, start, count(list), list);
-    write_line(&out, n);
 }
 
 fn lookup(file: &[u32], number: usize) {
-    let part = table::file::lookup(file, number);
-    if part.len() == 0 {
-        io::write_all(STDOUT_FILENO, b"start - length 0 / -\n");
-        return;
-    }
-    write_found(table::file::place(file, number), part);
+    let mut out = io::buffer();
+    let found = table::file::lookup(file, number);
+    let n = clause::clause(&mut out, 0, table::file::place(file, number), found);
+    write_line(&out, n);
 }
 
-fn answer_lookup(line: &[u8], file: usize, number: u32) {
+fn answer_lookup(line: &[u8], values: &[usize]) {
     let mut space = file_buffer();
-    let n = piece::gather(line, file, &mut space);
-    lookup(part::front(&space, n), wide(number));
+    let n = piece::gather(line, request::place(values, 1), &mut space);
+    lookup(part::front(&space, n), request::place(values, 0));
+}
+
+// Room for the values of the longest row.
+fn value_buffer() -> [usize; 8]
+    ensures { λ r. ⌜ 8 ≡ length r ⌝ }
+{
+    [0; 8]
 }
 
 fn answer_request(line: &[u8]) {
-    let request = request::read(line);
-    match request {
-        Request::Lookup { number, file } => answer_lookup(line, file, number),
-        Request::Search {
-            bound,
-            budget,
-            work,
-            proof,
-            answer,
-            file,
-        } => answer_search(line, file, bound, budget, work, proof, answer),
-        Request::Check {
-            bound,
-            work,
-            answer,
-            offered,
-            file,
-        } => answer_check(line, file, offered, bound, work, answer),
-        Request::Unread => {
-            io::write_all(STDOUT_FILENO, b"error\n");
-        }
+    let mut values = value_buffer();
+    if request::asks(line, b"lookup", b"nw", &[ANY, FILE], &mut values) {
+        answer_lookup(line, &values);
+        return;
     }
+    if request::asks(
+        line,
+        b"search",
+        b"nnnnnw",
+        &[ANY, ANY, LONG, PROOF, LONG, FILE],
+        &mut values,
+    ) {
+        answer_search(line, &values);
+        return;
+    }
+    if request::asks(
+        line,
+        b"check",
+        b"nnnww",
+        &[ANY, LONG, LONG, OFFERED, FILE],
+        &mut values,
+    ) {
+        answer_check(line, &values);
+        return;
+    }
+    io::write_all(STDOUT_FILENO, b"error\n");
 }
 
 // Empty lines and lines that begin with `#` have no result; a line that fills the buffer is too long to read.
@@ -249,13 +216,10 @@ fn answer_line(line: &[u8], full: bool) {
     answer_request(line);
 }
 
-// Answers a line that has ended; how much of the buffer is then in use.
-fn end_line(line: &[u8], used: usize, ended: bool) -> usize
-    requires { ⌜ used ≤ length (now line) ⌝ }
-    ensures { λ r. ⌜ r ≤ length (now (line .entry)) ⌝ }
-{
+// Answers a line that has ended; how long the line is then.
+fn end_line(line: &[u8], used: usize, ended: bool) -> usize {
     if ended {
-        answer_line(part::front_bytes(line, used), used == line.len());
+        answer_line(part::front_bytes(line, used), line.len() <= used);
         return 0;
     }
     used
@@ -269,10 +233,7 @@ fn line_end(chunk: &[u8], at: usize) -> usize
 }
 
 // Adds what was read to the line, and answers each line that ends in it.
-fn feed(chunk: &[u8], line: &mut [u8], from: usize) -> usize
-    requires { ⌜ from ≤ length (now line) ⌝ }
-    ensures { λ r. ⌜ r ≤ length (now (line .entry)) ⌝ }
-{
+fn feed(chunk: &[u8], line: &mut [u8], from: usize) -> usize {
     let mut used = from;
     let mut at = 0;
     while at < chunk.len() {
@@ -284,17 +245,14 @@ fn feed(chunk: &[u8], line: &mut [u8], from: usize) -> usize
     used
 }
 
-// How much of the line's buffer is in use, and whether there may be more to read.
+// How long the line is so far, and whether there may be more to read.
 pub struct Fed {
     pub used: usize,
     pub more: bool,
 }
 
 // Reads once. The last line may lack its line feed.
-fn read_some(line: &mut [u8], used: usize) -> Fed
-    requires { ⌜ used ≤ length (now line) ⌝ }
-    ensures { λ r. ⌜ r .used ≤ length (now (line .entry)) ⌝ }
-{
+fn read_some(line: &mut [u8], used: usize) -> Fed {
     let mut chunk = io::large_buffer();
     let got = libc::read(STDIN_FILENO, &mut chunk);
     if got <= 0 {

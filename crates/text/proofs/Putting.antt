@@ -1,7 +1,7 @@
 -- Writing in parts, with premises as the code has them.
 use mathlib.Core.Path.{_≡_, refl, sym, ap, _∙_}
 use mathlib.Core.List.{List, [], _∷_, _++_, append-assoc}
-use Prim.Native.Nat.{ℕ, zero, suc, _+_, _≤_, _<_, min, max}
+use Prim.Native.Nat.{ℕ, zero, suc, _+_, _^_, _≤_, _<_, min, max}
 use native.Mathlib.Nat.{le-of-suc-le-suc, not-suc-le-zero}
 use native.Mathlib.Omega.{arith, min-cases}
 use lib.ListN.{length, set, length-append}
@@ -48,16 +48,16 @@ module _ (out : List ℕ) (at b : ℕ) where
   unfolding after
   one h = record { written = put-set out at b h; ends = omega arith }
 
-  pub full : length out ≤ at → Put out at (b ∷ []) out at
+  pub full : length out ≤ at → length out < 2 ^ 63 → {next : ℕ} → next ≡ max at (min (at + 1) 0xFFFFFFFFFFFFFFFF) → Put out at (b ∷ []) out next
   unfolding after
-  full h = record { written = sym (put-past out at (b ∷ []) h); ends = omega arith }
+  full h k e = record { written = sym (put-past out at (b ∷ []) h); ends = omega arith }
 
 -- the rest goes on where a part ended
 put-on : (out : List ℕ) (at : ℕ) (a rest : List ℕ) (next : ℕ) → next ≡ after (length out) at (length a)
     → put (put out at a) next rest ≡ put out at (a ++ rest)
 unfolding after
 put-on out at a rest next e =
-    min-cases (at + length a) (length out) _
+    min-cases (at + length a) (max (length out) 0xFFFFFFFFFFFFFFFF) _
     (λ h m. let z : next ≡ at + length a = omega arith in rw z (put-more out at a rest))
     (λ h m. put-past (put out at a) next rest (omega (arith, length-put out at a))
     ∙ sym (put-past (put out at a) (at + length a) rest (omega (arith, length-put out at a)))
@@ -72,21 +72,20 @@ pub record Left (first : List ℕ) (from : ℕ) (whole : List ℕ) (out : List �
 pub begin : (out : List ℕ) (at : ℕ) (whole : List ℕ) → Left out at whole out at whole
 begin out at whole = record { size = refl; written = refl; ends = refl }
 
--- a buffer keeps its length, and a position in it stays in it
+-- a buffer keeps its length
 pub same-size : {out : List ℕ} {at : ℕ} {a out' : List ℕ} {at' : ℕ} → Put out at a out' at' → length out' ≡ length out
 same-size {out} {at} {a} p = ap (λ (l : List ℕ). length l) (p .written) ∙ length-put out at a
-
-pub within : {out : List ℕ} {at : ℕ} {a out' : List ℕ} {at' : ℕ} → Put out at a out' at' → at ≤ length out → at' ≤ length out'
-unfolding after
-within p h = omega (arith, p .ends, same-size p)
 
 stays : (n at : ℕ) → after n at 0 ≡ at
 unfolding after
 stays n at = omega arith
 
+on-top : (top at a b : ℕ) → max (max at (min (at + a) top)) (min (max at (min (at + a) top) + b) top) ≡ max at (min (at + (a + b)) top)
+on-top top at a b = omega arith
+
 ends-on : (n at a b : ℕ) → after n (after n at a) b ≡ after n at (a + b)
 unfolding after
-ends-on n at a b = omega arith
+ends-on n at a b = on-top (max n 0xFFFFFFFFFFFFFFFF) at a b
 
 ended : {out : List ℕ} {at : ℕ} {a mid : List ℕ} {next : ℕ} → Put out at a mid next → (b : List ℕ)
     → after (length mid) next (length b) ≡ after (length out) at (length (a ++ b))

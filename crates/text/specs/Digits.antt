@@ -3,6 +3,7 @@ use mathlib.Core.Bool.{cond}
 use mathlib.Core.List.{List, [], _∷_, _++_}
 use Prim.Native.Nat.{ℕ, zero, suc, _+_, _/_, _%_, _^_}
 use lib.Dec.{eqb, ltb}
+use Rattle.text.specs.Quoted.{bytes}
 
 -- a digit below 16: `0` to `9`, then `A` to `F`
 abbrev pub glyphOf : ℕ → ℕ
@@ -30,9 +31,9 @@ decimalText w = significant (digitsOf 10 10 w)
 -- words, each with a space before it
 unfoldable pub spacedText : List ℕ → List ℕ
 spacedText [] = []
-spacedText (w ∷ ws) = 32 ∷ (hexText w ++ spacedText ws)
+spacedText (w ∷ ws) = bytes " " ++ hexText w ++ spacedText ws
 
 -- words with spaces between them; `-` stands for none
 unfoldable pub wordsText : List ℕ → List ℕ
-wordsText [] = 45 ∷ []
+wordsText [] = bytes "-"
 wordsText (w ∷ ws) = hexText w ++ spacedText ws

@@ -1,6 +1,3 @@
-// Text of the programs: what a line says, and what is written.
+// Writing: bytes, words and numbers put into a lent buffer, counted past its end.
 pub mod part;
-pub mod piece;
 pub mod put;
-pub mod request;
-pub mod result;

@@ -1,10 +1,21 @@
-// Writing into a lent buffer from a position on, as much as there is room for. Each function answers the position after what it wrote.
+// Writing into a lent buffer from a position on. What has no room is not written, but counted: each function answers the position
+// after its text, past the buffer's end where the text does not fit.
 ghost use mathlib.Core.Path.{_≡_};
-ghost use mathlib.Core.List.{[], _∷_};
-ghost use Prim.Native.Nat.{_^_, _≤_, _<_};
+ghost use mathlib.Core.List.{[], _∷_, _++_};
+ghost use Prim.Native.Nat.{_+_, _^_, _≤_, _<_, min, max};
 ghost use Rattle.text.specs.Put.{Put};
 ghost use Rattle.text.specs.Digits.{glyphOf, digitsOf, hexText, decimalText, spacedText, wordsText};
 use words::fields::wide;
+
+// The position after a further element that has no room.
+fn past(at: usize) -> usize
+    ensures { λ r. ⌜ r ≡ max at (min (at + 1) 0xFFFFFFFFFFFFFFFF) ⌝ }
+{
+    if at == usize::MAX {
+        return at;
+    }
+    at + 1
+}
 
 pub fn byte(out: &mut [u8], at: usize, b: u8) -> usize
     ensures { λ r. ⌜ Put (now (out .entry)) at (b ∷ []) (now (out .exit)) r ⌝ }
@@ -13,7 +24,7 @@ pub fn byte(out: &mut [u8], at: usize, b: u8) -> usize
         out[at] = b;
         return at + 1;
     }
-    at
+    past(at)
 }
 
 pub fn word(out: &mut [u32], at: usize, w: u32) -> usize
@@ -23,7 +34,17 @@ pub fn word(out: &mut [u32], at: usize, w: u32) -> usize
         out[at] = w;
         return at + 1;
     }
-    at
+    past(at)
+}
+
+pub fn place(out: &mut [usize], at: usize, n: usize) -> usize
+    ensures { λ r. ⌜ Put (now (out .entry)) at (n ∷ []) (now (out .exit)) r ⌝ }
+{
+    if at < out.len() {
+        out[at] = n;
+        return at + 1;
+    }
+    past(at)
 }
 
 pub fn bytes(out: &mut [u8], from: usize, text: &[u8]) -> usize
@@ -112,4 +133,12 @@ pub fn list(out: &mut [u8], at: usize, list: &[u32]) -> usize
     }
     let next = hex(out, at, list[0]);
     spaced(out, next, &list[1..])
+}
+
+// A name and a number.
+pub fn field(out: &mut [u8], at: usize, name: &[u8], value: u32) -> usize
+    ensures { λ r. ⌜ Put (now (out .entry)) at (now (name .entry) ++ decimalText value) (now (out .exit)) r ⌝ }
+{
+    let next = bytes(out, at, name);
+    decimal(out, next, value)
 }

@@ -1,12 +1,11 @@
 use borrow.Author.Needs.{needs}
 use mathlib.Core.Path.{_≡_}
-use Prim.Native.Nat.{_≤_}
 use lib.ListN.{length}
 use Rattle.calls.proofs.serve.Statement.{statement}
 use Rattle.calls.proofs.serve.Tie as tie
 
 abbrev Inv-loop : tie.InvT-loop
-Inv-loop line₀ used₀ turns₀ line used turns = (used ≤ length line) × (length line ≡ length line₀)
+Inv-loop line₀ used₀ turns₀ line used turns = length line ≡ length line₀
 
 abbrev μ-loop : tie.MeasureT-loop
 μ-loop line₀ used₀ turns₀ line used turns = turns

@@ -14,4 +14,5 @@ word-spec =
     (λ c. search all)
     (λ c. search all)
     (λ c. search all)
-    (λ c. search all))
+    (λ c κs. search all)
+    (λ c. full _ _ _ (search needs) (search needs) (search needs)))

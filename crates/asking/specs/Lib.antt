@@ -1,0 +1,4 @@
+pub mod Report
+pub mod Program
+pub mod Promises
+pub mod Cases

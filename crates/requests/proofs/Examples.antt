@@ -1,0 +1,70 @@
+-- Lines read as requests, by computation: the values of a row that is met, and lines that are no request.
+use mathlib.Core.Path.{_≡_, refl}
+use mathlib.Core.Bool.{Bool, true, false}
+use mathlib.Core.List.{List, [], _∷_}
+use Prim.Native.Nat.{ℕ}
+use Prim.Native.String.{String}
+use lib.ListN.{drop}
+use Rattle.text.specs.Quoted.{bytes}
+use Rattle.requests.specs.Pieces.{upTo, pieces, piecesAt, digitOf, valueFrom, numberOf, numberAt, wordOf, sameBytes, leading, runFrom}
+use Rattle.requests.specs.Rows as Rows
+use Rattle.requests.specs.Rows.{wordsAt, barredAt, fieldAt, endsWith, valuesFrom, asks, valuesAsked}
+
+unfoldable opened : Unit {0}
+unfolding upTo pieces piecesAt digitOf valueFrom numberOf numberAt wordOf sameBytes leading runFrom Rows.numberAt wordsAt barredAt fieldAt endsWith valuesFrom asks valuesAsked
+opened = tt
+
+abbrev pub lookup : String → Bool
+lookup line = asks (bytes line) (bytes "lookup") (bytes "nw") (4294967295 ∷ 3 ∷ [])
+
+pub lookup-line : lookup "lookup 007 / -" ≡ true
+unfolding opened
+lookup-line = refl
+
+pub lookup-values : valuesAsked (bytes "lookup 007 / -") (bytes "lookup") (bytes "nw") (4294967295 ∷ 3 ∷ []) ≡ 7 ∷ 13 ∷ []
+unfolding opened
+lookup-values = refl
+
+-- the numbers, then the positions of the lists
+pub check-values :
+    valuesAsked (bytes "check 2 16384 9 / 40000000 1 / c 0") (bytes "check") (bytes "nnnww") (4294967295 ∷ 20000 ∷ 20000 ∷ 1024 ∷ 16100 ∷ [])
+    ≡ 2 ∷ 16384 ∷ 9 ∷ 18 ∷ 31 ∷ []
+unfolding opened
+check-values = refl
+
+-- the words of a list, from its position
+pub check-words : leading (piecesAt (bytes "check 2 16384 9 / 40000000 1 / c 0") 18) ≡ 0x40000000 ∷ 1 ∷ []
+unfolding opened
+check-words = refl
+
+pub long-word : lookup "lookup 0 / 000000000" ≡ false
+unfolding opened
+long-word = refl
+
+pub large-number : lookup "lookup 4294967296 / -" ≡ false
+unfolding opened
+large-number = refl
+
+pub over-the-limit : asks (bytes "a 20001") (bytes "a") (bytes "n") (20000 ∷ []) ≡ false
+unfolding opened
+over-the-limit = refl
+
+pub four-words : lookup "lookup 0 / 1 2 3 4" ≡ false
+unfolding opened
+four-words = refl
+
+pub two-spaces : lookup "lookup 0 / 1  2" ≡ false
+unfolding opened
+two-spaces = refl
+
+pub left-over : lookup "lookup 0 / - / -" ≡ false
+unfolding opened
+left-over = refl
+
+pub nothing-after-the-bar : lookup "lookup 0 /" ≡ false
+unfolding opened
+nothing-after-the-bar = refl
+
+pub other-verb : lookup "lookups 0 / -" ≡ false
+unfolding opened
+other-verb = refl

@@ -1,0 +1,3 @@
+// The line protocol of `calls`, read: a line's pieces, and the fields of a request.
+pub mod piece;
+pub mod request;

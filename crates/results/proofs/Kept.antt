@@ -1,0 +1,69 @@
+-- What is looked for in the lent buffers, one law for each outcome, with premises as the code has them.
+use mathlib.Core.Path.{_≡_, refl, sym, ap, _∙_}
+use mathlib.Core.Bool.{Bool, true, false, cond, _&&_}
+use mathlib.Core.List.{List, [], _∷_}
+use Prim.Native.Nat.{ℕ, _+_, _-_, _≤_, _<_}
+use lib.ListN.{length, take, drop, getD, drop-of-length-le}
+use borrow.Author.Tests.{eq-eqb, ne-eqb, lt-ltb, le-ltb}
+use Rattle.text.proofs.Parts.{part-from, part-length}
+use Rattle.text.proofs.Written.{from-place}
+use Rattle.results.specs.Buffers.{allAre, workKept, kept}
+
+-- all words the same
+module _ (value : ℕ) (ws : List ℕ) where
+  pub all-over : {i : ℕ} → allAre value ws ≡ allAre value (drop i ws) → length ws ≤ i → true ≡ allAre value ws
+  unfolding allAre
+  all-over s h = sym (s ∙ rw (drop-of-length-le ws h))
+
+  module _ {i : ℕ} (s : allAre value ws ≡ allAre value (drop i ws)) (h : i < length ws) where
+    pub all-fails : (getD ws i 0 ≡ value → ⊥) → false ≡ allAre value ws
+    unfolding allAre
+    all-fails n = sym (s ∙ rw (from-place ws i h, ne-eqb (getD ws i 0) value n))
+
+    pub all-more : getD ws i 0 ≡ value → allAre value ws ≡ allAre value (drop (i + 1) ws)
+    unfolding allAre
+    all-more e = s ∙ rw (from-place ws i h, eq-eqb (getD ws i 0) value e)
+
+pub ruleset all-laws = (all-over, all-fails, all-more)
+
+-- the work words by the status
+module _ (status : ℕ) (work : List ℕ) where
+  pub kept-whole : status ≡ 1 → {r : Bool} → r ≡ allAre 0xA5A5A5A5 work → r ≡ workKept status work
+  unfolding workKept
+  kept-whole e er = rw (eq-eqb status 1 e) er
+
+  module _ (n : status ≡ 1 → ⊥) where
+    pub kept-short : length work < 16384 → false ≡ workKept status work
+    unfolding workKept
+    kept-short h = rw (ne-eqb status 1 n, lt-ltb (length work) 16384 h)
+
+    module _ (h : 16384 ≤ length work) where
+      module _ {a : Bool} (ea : a ≡ allAre 0 (take 16384 work)) where
+        pub kept-not : a ≡ false → false ≡ workKept status work
+        unfolding workKept
+        kept-not f = rw (ne-eqb status 1 n, le-ltb (length work) 16384 h, sym ea ∙ f)
+
+        pub kept-rest : a ≡ true → {r : Bool} → r ≡ allAre 0xA5A5A5A5 (take (length work - 16384) (drop 16384 work)) → r ≡ workKept status work
+        unfolding workKept
+        kept-rest t er =
+            rw (ne-eqb status 1 n, le-ltb (length work) 16384 h, sym ea ∙ t)
+            (rw (part-from 16384 work) at er)
+
+pub ruleset work-laws = (kept-whole, kept-short, part-length, kept-not, kept-rest)
+
+-- the three buffers
+module _ (status : ℕ) (proof answer work : List ℕ) {w : Bool} (ew : w ≡ workKept status work) where
+  pub work-not : w ≡ false → false ≡ kept status proof answer work
+  unfolding kept
+  work-not f = rw (sym ew ∙ f)
+
+  module _ (t : w ≡ true) {p : Bool} (ep : p ≡ allAre 0xA5A5A5A5 proof) where
+    pub proof-not : p ≡ false → false ≡ kept status proof answer work
+    unfolding kept
+    proof-not f = rw (sym ew ∙ t, sym ep ∙ f)
+
+    pub answer-left : p ≡ true → {r : Bool} → r ≡ allAre 0xA5A5A5A5 answer → r ≡ kept status proof answer work
+    unfolding kept
+    answer-left u er = rw (sym ew ∙ t, sym ep ∙ u) er
+
+pub ruleset kept-laws = (work-not, proof-not, answer-left)

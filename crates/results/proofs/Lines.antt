@@ -1,0 +1,70 @@
+-- Result lines put together of parts, one law for each outcome, with premises as the code has them.
+use mathlib.Core.Path.{_≡_, refl, sym, ap, _∙_}
+use mathlib.Core.Bool.{Bool, true, false, cond}
+use mathlib.Core.List.{List, [], _∷_, _++_}
+use Prim.Native.Nat.{ℕ, _≤_, _<_, min}
+use native.Mathlib.Omega.{arith}
+use lib.ListN.{length, take, drop}
+use Rattle.text.specs.Quoted.{bytes}
+use Rattle.text.specs.Put.{Put}
+use Rattle.text.specs.Digits.{decimalText, wordsText}
+use Rattle.text.proofs.Putting.{then}
+use Rattle.hukolearu.specs.declared.Outcome.{Outcome}
+use Rattle.results.specs.Buffers.{kept}
+use Rattle.results.specs.Results.{barredText, verdictText, firstNumbersText, lastNumbersText, listsText, outcomeText, foundText, clauseText}
+
+module _ {out a : List ℕ} {at n : ℕ} where
+  pub barred-is : (ws : List ℕ) → Put out at (bytes " / ") a n → {b : List ℕ} {m : ℕ} → Put a n (wordsText ws) b m → Put out at (barredText ws) b m
+  unfolding barredText
+  barred-is ws p q = then {a = bytes " / "} p q
+
+  pub verdict-good : {b : Bool} → b ≡ true → Put out at (bytes "\n") a n → Put out at (verdictText b) a n
+  verdict-good e p = rw e p
+
+  pub verdict-bad : {b : Bool} → b ≡ false → Put out at (bytes " buffers\n") a n → Put out at (verdictText b) a n
+  verdict-bad e p = rw e p
+
+  pub lists-are : (steps ws : List ℕ) (intact : Bool) → Put out at (barredText steps) a n → {b : List ℕ} {m : ℕ} → Put a n (barredText ws) b m
+      → {c : List ℕ} {k : ℕ} → Put b m (verdictText intact) c k → Put out at (listsText steps ws intact) c k
+  unfolding listsText
+  lists-are steps ws intact p q r = then (then p q) r
+
+  pub first-are : (o : Outcome) → Put out at (bytes "status " ++ decimalText (o .status)) a n → {b : List ℕ} {m : ℕ} → Put a n (bytes " place " ++ decimalText (o .place)) b m
+      → {c : List ℕ} {k : ℕ} → Put b m (bytes " proof " ++ decimalText (o .proof)) c k → Put out at (firstNumbersText o) c k
+  unfolding firstNumbersText
+  first-are o p q r =
+      then {a = bytes "status " ++ decimalText (o .status) ++ (bytes " place " ++ decimalText (o .place))} (then {a = bytes "status " ++ decimalText (o .status)} p q) r
+
+  pub last-are : (o : Outcome) → Put out at (bytes " disjuncts " ++ decimalText (o .disjuncts)) a n → {b : List ℕ} {m : ℕ} → Put a n (bytes " answer " ++ decimalText (o .answer)) b m
+      → {c : List ℕ} {k : ℕ} → Put b m (bytes " tries " ++ decimalText (o .tries)) c k → Put out at (lastNumbersText o) c k
+  unfolding lastNumbersText
+  last-are o p q r =
+      then {a = bytes " disjuncts " ++ decimalText (o .disjuncts) ++ (bytes " answer " ++ decimalText (o .answer))} (then {a = bytes " disjuncts " ++ decimalText (o .disjuncts)} p q) r
+
+  pub outcome-is : (o : Outcome) (steps : ℕ) (proof answer work : List ℕ) → Put out at (firstNumbersText o) a n → {b : List ℕ} {m : ℕ} → Put a n (lastNumbersText o) b m
+      → {w : ℕ} → w ≡ o .answer → {front-steps front-words rest-steps rest-words : List ℕ}
+      → front-steps ≡ take steps proof → front-words ≡ take w answer → rest-steps ≡ drop steps proof → rest-words ≡ drop w answer
+      → {intact : Bool} → intact ≡ kept (o .status) rest-steps rest-words work
+      → {c : List ℕ} {k : ℕ} → Put b m (listsText front-steps front-words intact) c k → Put out at (outcomeText o steps proof answer work) c k
+  unfolding outcomeText
+  outcome-is o steps proof answer work p q ew fs fw rs rw′ ei r = then (then p q) (rw (ei, fs, fw, rs, rw′, ew) at r)
+
+  pub found-is : (s : ℕ) (ws : List ℕ) → Put out at (bytes "start " ++ decimalText s) a n
+      → {l : ℕ} → l ≡ min (length ws) 4294967295 → {b : List ℕ} {m : ℕ} → Put a n (bytes " length " ++ decimalText l) b m
+      → {c : List ℕ} {k : ℕ} → Put b m (barredText ws) c k → {d : List ℕ} {j : ℕ} → Put c k (bytes "\n") d j → Put out at (foundText s ws) d j
+  unfolding foundText
+  found-is s ws p e q r u =
+      then {a = bytes "start " ++ decimalText s ++ (bytes " length " ++ decimalText (min (length ws) 4294967295)) ++ barredText ws}
+      (then {a = bytes "start " ++ decimalText s ++ (bytes " length " ++ decimalText (min (length ws) 4294967295))} (then {a = bytes "start " ++ decimalText s} p (rw e at q)) r) u
+
+  pub clause-none : (s : ℕ) (ws : List ℕ) → length ws ≡ 0 → Put out at (bytes "start - length 0 / -\n") a n → Put out at (clauseText s ws) a n
+  unfolding clauseText
+  clause-none s [] e p = p
+  clause-none s (w ∷ ws) e p = absurd (omega arith)
+
+  pub clause-some : (s : ℕ) (ws : List ℕ) → (length ws ≡ 0 → ⊥) → Put out at (foundText s ws) a n → Put out at (clauseText s ws) a n
+  unfolding clauseText
+  clause-some s [] e p = absurd (e refl)
+  clause-some s (w ∷ ws) e p = p
+
+pub ruleset line-laws = (barred-is, verdict-good, verdict-bad, lists-are, first-are, last-are, outcome-is, found-is, clause-none, clause-some)

@@ -1,0 +1,22 @@
+use borrow.Author.Needs.{needs}
+use Rattle.results.proofs.Lines.{line-laws}
+use Rattle.results.proofs.outcome.outcome.Statement.{statement}
+use Rattle.results.proofs.outcome.outcome.Tie as tie
+
+ruleset all = (needs, line-laws)
+
+pub outcome-spec : {M : Type 1} → statement M
+outcome-spec =
+    tie.close
+    (tie.spec
+    (λ c κs. search all)
+    (λ c κs. search all)
+    (λ c κs. search all)
+    (λ c κs. search all)
+    (λ c κs. search all)
+    (λ c κs. search all)
+    (λ c κs. search all)
+    (λ c κs. search all)
+    (λ c κs. search all)
+    (λ c. search all)
+    (λ c. search all))

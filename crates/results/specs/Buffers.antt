@@ -1,0 +1,20 @@
+-- What `calls` looks for in the lent buffers: each is filled with A5A5A5A5 before a call.
+use mathlib.Core.Bool.{Bool, true, false, cond, _&&_}
+use mathlib.Core.List.{List, [], _∷_}
+use Prim.Native.Nat.{ℕ}
+use lib.Dec.{eqb, ltb}
+use lib.ListN.{length, take, drop}
+
+unfoldable pub allAre : ℕ → List ℕ → Bool
+allAre value [] = true
+allAre value (w ∷ ws) = eqb w value && allAre value ws
+
+-- status 1 leaves the work words unchanged; all others leave the first 16,384 zero and the rest unchanged
+unfoldable pub workKept : ℕ → List ℕ → Bool
+workKept status work =
+    cond (eqb status 1) (allAre 0xA5A5A5A5 work)
+    (cond (ltb (length work) 16384) false (allAre 0 (take 16384 work) && allAre 0xA5A5A5A5 (drop 16384 work)))
+
+-- so are they, and the words after the proof and after the answer are unchanged
+unfoldable pub kept : ℕ → List ℕ → List ℕ → List ℕ → Bool
+kept status proof answer work = workKept status work && allAre 0xA5A5A5A5 proof && allAre 0xA5A5A5A5 answer

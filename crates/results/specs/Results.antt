@@ -1,0 +1,44 @@
+-- The result lines of `calls`.
+use mathlib.Core.Bool.{Bool, true, false, cond}
+use mathlib.Core.List.{List, [], _∷_, _++_}
+use Prim.Native.Nat.{ℕ, min}
+use lib.ListN.{length, take, drop}
+use Rattle.text.specs.Quoted.{bytes}
+use Rattle.text.specs.Digits.{decimalText, wordsText}
+use Rattle.hukolearu.specs.declared.Outcome.{Outcome}
+use Rattle.results.specs.Buffers.{kept}
+
+-- a list after a bar
+unfoldable pub barredText : List ℕ → List ℕ
+barredText ws = bytes " / " ++ wordsText ws
+
+-- ` buffers` follows where a word that should be unchanged or zero is not
+abbrev pub verdictText : Bool → List ℕ
+verdictText true = bytes "\n"
+verdictText false = bytes " buffers\n"
+
+-- OUTCOME: six numbers, the words at the front of the proof buffer, those at the front of the answer buffer
+unfoldable pub firstNumbersText : Outcome → List ℕ
+firstNumbersText o =
+    bytes "status " ++ decimalText (o .status) ++ (bytes " place " ++ decimalText (o .place)) ++ (bytes " proof " ++ decimalText (o .proof))
+
+unfoldable pub lastNumbersText : Outcome → List ℕ
+lastNumbersText o =
+    bytes " disjuncts " ++ decimalText (o .disjuncts) ++ (bytes " answer " ++ decimalText (o .answer)) ++ (bytes " tries " ++ decimalText (o .tries))
+
+unfoldable pub listsText : List ℕ → List ℕ → Bool → List ℕ
+listsText proof answer intact = barredText proof ++ barredText answer ++ verdictText intact
+
+unfoldable pub outcomeText : Outcome → ℕ → List ℕ → List ℕ → List ℕ → List ℕ
+outcomeText o steps proof answer work =
+    firstNumbersText o ++ lastNumbersText o
+    ++ listsText (take steps proof) (take (o .answer) answer) (kept (o .status) (drop steps proof) (drop (o .answer) answer) work)
+
+-- a clause that was looked up; of no words where the file or the number is refused
+unfoldable pub foundText : ℕ → List ℕ → List ℕ
+foundText start ws =
+    bytes "start " ++ decimalText start ++ (bytes " length " ++ decimalText (min (length ws) 4294967295)) ++ barredText ws ++ bytes "\n"
+
+unfoldable pub clauseText : ℕ → List ℕ → List ℕ
+clauseText start [] = bytes "start - length 0 / -\n"
+clauseText start (w ∷ ws) = foundText start (w ∷ ws)

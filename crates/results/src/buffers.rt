@@ -1,0 +1,51 @@
+// What is looked for in the lent buffers, which are filled before every call.
+ghost use mathlib.Core.Path.{_≡_};
+ghost use Rattle.results.specs.Buffers.{allAre, workKept, kept};
+
+fn all(list: &[u32], value: u32) -> bool
+    ensures { λ r. ⌜ r ≡ allAre value (now (list .entry)) ⌝ }
+{
+    let mut i = 0;
+    while i < list.len() {
+        if list[i] != value {
+            return false;
+        }
+        i += 1;
+    }
+    true
+}
+
+// Words that a call should not have changed.
+pub fn untouched(list: &[u32]) -> bool
+    ensures { λ r. ⌜ r ≡ allAre 0xA5A5A5A5 (now (list .entry)) ⌝ }
+{
+    all(list, 0xA5A5A5A5)
+}
+
+// The work words are as the status says.
+fn work_kept(status: u32, work: &[u32]) -> bool
+    ensures { λ r. ⌜ r ≡ workKept status (now (work .entry)) ⌝ }
+{
+    if status == 1 {
+        return untouched(work);
+    }
+    if work.len() < 16384 {
+        return false;
+    }
+    if all(&work[..16384], 0) {
+        return untouched(&work[16384..]);
+    }
+    false
+}
+
+// So are they, and the words after the proof and after the answer are unchanged.
+pub fn kept(status: u32, proof: &[u32], answer: &[u32], work: &[u32]) -> bool
+    ensures { λ r. ⌜ r ≡ kept status (now (proof .entry)) (now (answer .entry)) (now (work .entry)) ⌝ }
+{
+    if work_kept(status, work) {
+        if untouched(proof) {
+            return untouched(answer);
+        }
+    }
+    false
+}

@@ -1,0 +1,9 @@
+-- Text in quotes, as its bytes: of ASCII, a character is one byte, its code.
+use Prim.Native.Nat.{ℕ}
+use Prim.Native.Char.{code}
+use Prim.Native.String.{String, [], _∷_}
+use mathlib.Core.List.{List, [] as []ᴸ, _∷_ as _∷ᴸ_}
+
+abbrev pub bytes : String → List ℕ
+bytes [] = []ᴸ
+bytes (c ∷ s) = code c ∷ᴸ bytes s
