@@ -29,18 +29,18 @@ int main(void)
     int wrong = 0;
 
     work[16384] = 0xA5A5A5A5;
-    struct hukolearu_outcome found = search(file, 15, 2, 3, proof, 199, answer, 64, work, 16385);
+    struct hukolearu_outcome found = hukolearu_search(file, 15, 2, 3, proof, 199, answer, 64, work, 16385);
     wrong |= says("search: found, 2 steps, 2 disjuncts, 6 words, 3 tries",
                   found.status == HUKOLEARU_FOUND && found.place == 0 && found.proof == 2 && found.disjuncts == 2 && found.answer == 6
                       && found.tries == 3 && same(proof, steps, 2) && same(answer, words, 6) && work[0] == 0 && work[16384] == 0xA5A5A5A5);
 
-    struct hukolearu_outcome checked = check_proof(file, 15, 2, proof, 2, answer, 64, work, 16384);
+    struct hukolearu_outcome checked = hukolearu_check_proof(file, 15, 2, proof, 2, answer, 64, work, 16384);
     wrong |= says("check: accepted, tries 0", checked.status == HUKOLEARU_FOUND && checked.proof == 2 && checked.tries == 0 && same(answer, words, 6));
 
-    struct hukolearu_outcome none = search(file, 15, 1, 100, proof, 199, answer, 64, work, 16384);
+    struct hukolearu_outcome none = hukolearu_search(file, 15, 1, 100, proof, 199, answer, 64, work, 16384);
     wrong |= says("search, K = 1: none, 4 tries", none.status == HUKOLEARU_NONE && none.tries == 4);
 
-    struct hukolearu_outcome small = search(file, 15, 2, 3, proof, 199, answer, 64, work, 16383);
+    struct hukolearu_outcome small = hukolearu_search(file, 15, 2, 3, proof, 199, answer, 64, work, 16383);
     wrong |= says("search, 16,383 work words: refused", small.status == HUKOLEARU_WORK_TOO_SHORT);
     return wrong;
 }

@@ -1,4 +1,4 @@
-/* Hukolearu: the proved engine, for C. Link with libhukolearu.a (`rt staticlib hukolearu`), which is for x86-64 Linux.
+/* Hukolearu: the proved engine, for C. Link with libhukolearu.a (`bindings/archive` makes it), which is for x86-64 Linux.
  *
  * Every call is total: any lengths, any words. A length of 0 may come with any pointer that is not null.
  * Buffers are read and written as document 01 says:
@@ -24,35 +24,37 @@ struct hukolearu_outcome {
     uint32_t tries;
 };
 
+/* README.md, "What each status means". */
 enum hukolearu_status {
-    HUKOLEARU_FOUND = 0,             /* found or accepted */
-    HUKOLEARU_WORK_TOO_SHORT = 1,    /* work buffer under 16,384 words */
-    HUKOLEARU_PROOF_TOO_SHORT = 2,   /* search: proof buffer under 199 words */
-    HUKOLEARU_BOUND_TOO_LARGE = 3,   /* bound over 32 */
-    HUKOLEARU_FILE_SIZE = 4,         /* file under 6 or over 16,000 words */
-    HUKOLEARU_TRAILER = 5,           /* the last four words do not describe the file */
-    HUKOLEARU_FINGERPRINT = 6,       /* the file was changed on its way */
-    HUKOLEARU_MALFORMED_BODY = 7,    /* place: the word */
-    HUKOLEARU_CLAUSES = 8,           /* clauses or question not where the trailer says */
-    HUKOLEARU_POSITIVE_QUESTION = 9, /* a positive literal in the question */
-    HUKOLEARU_NONE = 10,             /* search: none within the bound */
-    HUKOLEARU_RAN_OUT = 11,          /* search: the budget of tries is used up */
-    HUKOLEARU_MALFORMED_STEP = 12,   /* checker; place: the step */
-    HUKOLEARU_STEP_NOT_ALLOWED = 13, /* checker; place: the step */
-    HUKOLEARU_NOT_UNIFIED = 14,      /* checker; place: the step */
-    HUKOLEARU_LEAVES_OPEN = 15,      /* checker; place: the number of steps */
-    HUKOLEARU_ANSWER_TOO_LONG = 16   /* there is a proof; its answer is longer than the buffer */
+    HUKOLEARU_FOUND = 0,
+    HUKOLEARU_WORK_TOO_SHORT = 1,
+    HUKOLEARU_PROOF_TOO_SHORT = 2,
+    HUKOLEARU_BOUND_TOO_LARGE = 3,
+    HUKOLEARU_FILE_SIZE = 4,
+    HUKOLEARU_TRAILER = 5,
+    HUKOLEARU_FINGERPRINT = 6,
+    HUKOLEARU_MALFORMED_BODY = 7,
+    HUKOLEARU_CLAUSES = 8,
+    HUKOLEARU_POSITIVE_QUESTION = 9,
+    HUKOLEARU_NONE = 10,
+    HUKOLEARU_RAN_OUT = 11,
+    HUKOLEARU_MALFORMED_STEP = 12,
+    HUKOLEARU_STEP_NOT_ALLOWED = 13,
+    HUKOLEARU_NOT_UNIFIED = 14,
+    HUKOLEARU_LEAVES_OPEN = 15,
+    HUKOLEARU_ANSWER_TOO_LONG = 16
 };
 
 #define HUKOLEARU_WORK_WORDS 16384
 #define HUKOLEARU_PROOF_WORDS 199
 
-struct hukolearu_outcome search(const uint32_t *file, size_t file_words, uint32_t bound, uint32_t budget,
-                                uint32_t *proof, size_t proof_words, uint32_t *answer, size_t answer_words,
-                                uint32_t *work, size_t work_words);
+/* The calls have the names that they have in Rattle and in Rust, with a prefix, and the same arguments in the same order. */
+struct hukolearu_outcome hukolearu_search(const uint32_t *file, size_t file_words, uint32_t bound, uint32_t budget,
+                                          uint32_t *proof, size_t proof_words, uint32_t *answer, size_t answer_words,
+                                          uint32_t *work, size_t work_words);
 
-struct hukolearu_outcome check_proof(const uint32_t *file, size_t file_words, uint32_t bound,
-                                     const uint32_t *offered, size_t offered_words, uint32_t *answer, size_t answer_words,
-                                     uint32_t *work, size_t work_words);
+struct hukolearu_outcome hukolearu_check_proof(const uint32_t *file, size_t file_words, uint32_t bound,
+                                               const uint32_t *offered, size_t offered_words,
+                                               uint32_t *answer, size_t answer_words, uint32_t *work, size_t work_words);
 
 #endif

@@ -21,11 +21,11 @@ mod archive {
 
     extern "C" {
         #[allow(clippy::too_many_arguments)]
-        pub fn search(
+        pub fn hukolearu_search(
             file: *const u32, file_words: usize, bound: u32, budget: u32, proof: *mut u32, proof_words: usize,
             answer: *mut u32, answer_words: usize, work: *mut u32, work_words: usize,
         ) -> Outcome;
-        pub fn check_proof(
+        pub fn hukolearu_check_proof(
             file: *const u32, file_words: usize, bound: u32, offered: *const u32, offered_words: usize,
             answer: *mut u32, answer_words: usize, work: *mut u32, work_words: usize,
         ) -> Outcome;
@@ -36,7 +36,7 @@ mod archive {
 pub fn search(file: &[u32], bound: u32, budget: u32, proof: &mut [u32], answer: &mut [u32], work: &mut [u32]) -> Outcome {
     // SAFETY: the slices are valid for their lengths and do not overlap, and the call reads and writes within them (proved).
     unsafe {
-        archive::search(
+        archive::hukolearu_search(
             file.as_ptr(), file.len(), bound, budget, proof.as_mut_ptr(), proof.len(),
             answer.as_mut_ptr(), answer.len(), work.as_mut_ptr(), work.len(),
         )
@@ -44,10 +44,10 @@ pub fn search(file: &[u32], bound: u32, budget: u32, proof: &mut [u32], answer: 
 }
 
 /// Checks an offered proof with lent buffers.
-pub fn check(file: &[u32], bound: u32, offered: &[u32], answer: &mut [u32], work: &mut [u32]) -> Outcome {
+pub fn check_proof(file: &[u32], bound: u32, offered: &[u32], answer: &mut [u32], work: &mut [u32]) -> Outcome {
     // SAFETY: as for `search`.
     unsafe {
-        archive::check_proof(
+        archive::hukolearu_check_proof(
             file.as_ptr(), file.len(), bound, offered.as_ptr(), offered.len(),
             answer.as_mut_ptr(), answer.len(), work.as_mut_ptr(), work.len(),
         )
@@ -71,7 +71,7 @@ mod tests {
         assert_eq!(proof[..3], [0x40000000, 0x40000001, 9]);
         assert_eq!(answer, [0x80002001, 0x40000001, 0x40000002, 0x80002001, 0x40000001, 0x40000003, 9, 9]);
         assert!(work[..WORK_WORDS].iter().all(|&word| word == 0) && work[WORK_WORDS..] == [9, 9]);
-        let accepted = check(&CASE_1, 2, &proof[..2], &mut answer, &mut work);
+        let accepted = check_proof(&CASE_1, 2, &proof[..2], &mut answer, &mut work);
         assert_eq!(accepted, Outcome { tries: 0, ..found });
     }
 

@@ -1,14 +1,13 @@
 //! The line protocol: one request a line, one result line each.
 
-mod request;
+mod base;
+mod buffers;
+mod line;
 
-use engine::{Report, Status, WORK_WORDS};
-use request::Request;
-use std::fmt::Write as _;
+use engine::Report;
+use line::Line;
 use std::io::{self, BufRead, BufWriter, Write};
 use std::ops::Range;
-
-const FILLER: u32 = 0xA5A5_A5A5;
 
 /// What an implementation has to offer to be called by lines.
 pub trait Engine {
@@ -60,76 +59,16 @@ pub fn respond(engine: &mut impl Engine, line: &[u8]) -> Option<String> {
     if line.is_empty() || line.starts_with(b"#") {
         return None;
     }
-    Some(request::read(line).map_or("error".to_owned(), |request| perform(engine, request)))
+    let result = line::take_apart(line).and_then(|line| perform(engine, &line));
+    Some(result.unwrap_or("error".to_owned()))
 }
 
-fn perform(engine: &mut impl Engine, request: Request) -> String {
-    match request {
-        Request::Lookup { number, file } => match engine.lookup(&file, number) {
-            Some(Range { start, end }) => format!("start {start} length {} / {}", end - start, hex(&file[start..end])),
-            None => "start - length 0 / -".to_owned(),
-        },
-        Request::Search { bound, budget, work, proof, answer, file } => {
-            let mut buffers = Buffers::filled(work, proof, answer);
-            let report = engine.search(&file, bound, budget, buffers.lend());
-            buffers.outcome(&report, report.proof_words as usize)
-        }
-        Request::Check { bound, work, answer, offered, file } => {
-            let mut buffers = Buffers::filled(work, 0, answer);
-            let report = engine.check(&file, &offered, bound, buffers.lend());
-            buffers.outcome(&report, 0)
-        }
+/// Each verb is a row here and a function of its own.
+fn perform(engine: &mut impl Engine, line: &Line) -> Option<String> {
+    match line.verb {
+        "lookup" => base::lookup(engine, line),
+        "search" => base::search(engine, line),
+        "check" => base::check(engine, line),
+        _ => None,
     }
-}
-
-struct Buffers {
-    work: Vec<u32>,
-    proof: Vec<u32>,
-    answer: Vec<u32>,
-}
-
-impl Buffers {
-    fn filled(work: usize, proof: usize, answer: usize) -> Buffers {
-        Buffers { work: vec![FILLER; work], proof: vec![FILLER; proof], answer: vec![FILLER; answer] }
-    }
-
-    fn lend(&mut self) -> Lent<'_> {
-        Lent { work: &mut self.work, proof: &mut self.proof, answer: &mut self.answer }
-    }
-
-    fn outcome(&self, report: &Report, proof_words: usize) -> String {
-        let Report { status, place, proof_words: steps, disjuncts, answer_words, tries } = *report;
-        let (proof, proof_rest) = self.proof.split_at(proof_words);
-        let (answer, answer_rest) = self.answer.split_at(answer_words as usize);
-        let intact = self.work_as_promised(status) && untouched(proof_rest) && untouched(answer_rest);
-        format!(
-            "status {} place {place} proof {steps} disjuncts {disjuncts} answer {answer_words} tries {tries} / {} / {}{}",
-            status as u32,
-            hex(proof),
-            hex(answer),
-            if intact { "" } else { " buffers" }
-        )
-    }
-
-    fn work_as_promised(&self, status: Status) -> bool {
-        if status == Status::WorkTooShort {
-            return untouched(&self.work);
-        }
-        let (used, rest) = self.work.split_at(WORK_WORDS);
-        used.iter().all(|&word| word == 0) && untouched(rest)
-    }
-}
-
-fn untouched(words: &[u32]) -> bool {
-    words.iter().all(|&word| word == FILLER)
-}
-
-fn hex(words: &[u32]) -> String {
-    let Some((first, rest)) = words.split_first() else {
-        return "-".to_owned();
-    };
-    rest.iter().fold(format!("{first:08X}"), |mut text, word| {
-        write!(text, " {word:08X}").expect("a string takes text");
-        text
-    })
 }

@@ -47,7 +47,7 @@ mod archive {
     unsafe extern "C" {
         /// As in the header, but for the place of the result, which x86-64 passes first: the engine's module has it so, and where the
         /// module is compiled for another processor the call must say so itself.
-        pub fn search(
+        pub fn hukolearu_search(
             outcome: *mut Outcome,
             file: *const u32,
             file_words: usize,
@@ -69,7 +69,7 @@ fn proved(workload: &Workload, lent: &mut Lent) -> Outcome {
     let mut outcome = Outcome { status: 0, place: 0, proof: 0, disjuncts: 0, answer: 0, tries: 0 };
     // SAFETY: the slices are valid for their lengths and do not overlap, and the call reads and writes within them (proved).
     unsafe {
-        archive::search(
+        archive::hukolearu_search(
             &mut outcome,
             file.as_ptr(),
             file.len(),
