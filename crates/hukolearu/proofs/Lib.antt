@@ -5,3 +5,4 @@ pub mod CallDemands
 pub mod CallsTold
 pub mod Unique
 pub mod CallCases
+pub mod TypedOrder

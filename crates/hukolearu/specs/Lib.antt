@@ -6,3 +6,4 @@ pub mod CallDemands
 pub mod Enums
 pub mod Telling
 pub mod Cases
+pub mod Typed

@@ -4,6 +4,7 @@ mod borders;
 mod damage;
 mod lines;
 mod noise;
+pub mod pairs;
 pub mod proofs;
 pub mod random;
 pub mod tables;

@@ -1,23 +1,33 @@
-//! `generate SEED COUNT` writes so many requests, one a line.
+//! `generate SEED COUNT` writes so many requests, one a line; `generate pairs SEED COUNT` so many pairs of one table in two orders.
 
 use std::io::{self, BufWriter, Write};
 use std::process::ExitCode;
 
 fn main() -> ExitCode {
-    let numbers: Option<Vec<u64>> = std::env::args().skip(1).map(|argument| argument.parse().ok()).collect();
+    let mut arguments: Vec<String> = std::env::args().skip(1).collect();
+    let in_pairs = arguments.first().is_some_and(|word| word == "pairs");
+    if in_pairs {
+        arguments.remove(0);
+    }
+    let numbers: Option<Vec<u64>> = arguments.iter().map(|argument| argument.parse().ok()).collect();
     let Some(&[seed, count]) = numbers.as_deref() else {
-        eprintln!("usage: generate SEED COUNT");
+        eprintln!("usage: generate [pairs] SEED COUNT");
         return ExitCode::FAILURE;
     };
-    match print(seed, count as usize) {
+    let printed = if in_pairs {
+        print(generate::pairs::pairs(seed, count as usize))
+    } else {
+        print(generate::requests(seed, count as usize))
+    };
+    match printed {
         Ok(()) => ExitCode::SUCCESS,
         Err(_) => ExitCode::FAILURE,
     }
 }
 
-fn print(seed: u64, count: usize) -> io::Result<()> {
+fn print(lines: impl Iterator<Item = String>) -> io::Result<()> {
     let mut output = BufWriter::new(io::stdout().lock());
-    for line in generate::requests(seed, count) {
+    for line in lines {
         writeln!(output, "{line}")?;
     }
     output.flush()
