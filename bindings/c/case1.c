@@ -42,5 +42,11 @@ int main(void)
 
     struct hukolearu_outcome small = hukolearu_search(file, 15, 2, 3, proof, 199, answer, 64, work, 16383);
     wrong |= says("search, 16,383 work words: refused", small.status == HUKOLEARU_WORK_TOO_SHORT);
+
+    static uint32_t slimmer[15], numbers[2];
+    struct hukolearu_slimmed slim = hukolearu_slim(file, 15, slimmer, 15, numbers, 2);
+    wrong |= says("slimmer file: nothing drops, and the file comes back word for word",
+                  slim.status == HUKOLEARU_FOUND && slim.words == 15 && slim.clauses == 2 && same(slimmer, file, 15) && numbers[0] == 0
+                      && numbers[1] == 1);
     return wrong;
 }

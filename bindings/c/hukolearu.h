@@ -57,4 +57,16 @@ struct hukolearu_outcome hukolearu_check_proof(const uint32_t *file, size_t file
                                                const uint32_t *offered, size_t offered_words,
                                                uint32_t *answer, size_t answer_words, uint32_t *work, size_t work_words);
 
+/* Order 12: a slimmer file without repeats and dead clauses, and the old number of each clause that it keeps. A refusal (4 to 9, or 16
+ * where either buffer is too short) leaves both buffers unchanged; on 0 later words are unchanged. */
+struct hukolearu_slimmed {
+    uint32_t status;
+    uint32_t place;
+    uint32_t words;   /* of the slimmer file */
+    uint32_t clauses; /* of the slimmer file, which is how many numbers are written */
+};
+
+struct hukolearu_slimmed hukolearu_slim(const uint32_t *file, size_t file_words, uint32_t *slimmer, size_t slimmer_words,
+                                        uint32_t *numbers, size_t numbers_words);
+
 #endif

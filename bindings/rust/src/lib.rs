@@ -13,11 +13,21 @@ pub struct Outcome {
     pub tries: u32,
 }
 
+/// A slimmer file (order 12): its words, and its clauses, which is how many old numbers are written.
+#[repr(C)]
+#[derive(Clone, Copy, Debug, PartialEq, Eq)]
+pub struct Slimmed {
+    pub status: u32,
+    pub place: u32,
+    pub words: u32,
+    pub clauses: u32,
+}
+
 pub const WORK_WORDS: usize = 16_384;
 pub const PROOF_WORDS: usize = 199;
 
 mod archive {
-    use super::Outcome;
+    use super::{Outcome, Slimmed};
 
     extern "C" {
         #[allow(clippy::too_many_arguments)]
@@ -29,6 +39,9 @@ mod archive {
             file: *const u32, file_words: usize, bound: u32, offered: *const u32, offered_words: usize,
             answer: *mut u32, answer_words: usize, work: *mut u32, work_words: usize,
         ) -> Outcome;
+        pub fn hukolearu_slim(
+            file: *const u32, file_words: usize, slimmer: *mut u32, slimmer_words: usize, numbers: *mut u32, numbers_words: usize,
+        ) -> Slimmed;
     }
 }
 
@@ -54,6 +67,16 @@ pub fn check_proof(file: &[u32], bound: u32, offered: &[u32], answer: &mut [u32]
     }
 }
 
+/// Writes a slimmer file without repeats and dead clauses, and the old number of each clause that it keeps.
+pub fn slim(file: &[u32], slimmer: &mut [u32], numbers: &mut [u32]) -> Slimmed {
+    // SAFETY: as for `search`.
+    unsafe {
+        archive::hukolearu_slim(
+            file.as_ptr(), file.len(), slimmer.as_mut_ptr(), slimmer.len(), numbers.as_mut_ptr(), numbers.len(),
+        )
+    }
+}
+
 #[cfg(test)]
 mod tests {
     use super::*;
@@ -73,6 +96,22 @@ mod tests {
         assert!(work[..WORK_WORDS].iter().all(|&word| word == 0) && work[WORK_WORDS..] == [9, 9]);
         let accepted = check_proof(&CASE_1, 2, &proof[..2], &mut answer, &mut work);
         assert_eq!(accepted, Outcome { tries: 0, ..found });
+    }
+
+    #[test]
+    fn a_dead_clause_and_a_repeat_are_dropped() {
+        // p or q (dead: no literal ~ q); p; p; ask p
+        let mut file = vec![0xC0000202, 0x80000001, 0x80000002, 0xC0000101, 0x80000001, 0xC0000101, 0x80000001, 0xC0000101, 0x80008001];
+        let fingerprint = |body: &[u32]| {
+            body.iter().flat_map(|word| word.to_le_bytes()).fold(0x811C9DC5u32, |hash, byte| (hash ^ u32::from(byte)).wrapping_mul(0x01000193))
+        };
+        file.extend([7, 4, fingerprint(&file), 9]);
+        let (mut slimmer, mut numbers) = ([9; 9], [9; 3]);
+        assert_eq!(slim(&file, &mut slimmer, &mut numbers), Slimmed { status: 0, place: 0, words: 8, clauses: 2 });
+        let body = [0xC0000101, 0x80000001, 0xC0000101, 0x80008001];
+        assert_eq!(slimmer, [body[0], body[1], body[2], body[3], 2, 2, fingerprint(&body), 4, 9]);
+        assert_eq!(numbers, [1, 3, 9]);
+        assert_eq!(slim(&file, &mut slimmer[..7], &mut numbers).status, 16);
     }
 
     #[test]

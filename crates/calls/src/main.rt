@@ -11,6 +11,7 @@ use requests::piece;
 use requests::request;
 use results::clause;
 use results::outcome;
+use results::slimmed;
 use text::part;
 use text::put;
 use words::fields::wide;
@@ -25,6 +26,8 @@ const OFFERED: u32 = 1024;
 const PROOF: u32 = 300;
 
 const LONG: u32 = 20000;
+
+const NUMBERS: u32 = 600;
 
 fn least(a: usize, b: usize) -> usize
     ensures { λ r. ⌜ r ≡ min a b ⌝ }
@@ -165,6 +168,41 @@ fn answer_lookup(line: &[u8], values: &[usize]) {
     lookup(part::front(&space, n), request::place(values, 0));
 }
 
+fn slim_file(file: &[u32], slimmer: &mut [u32], numbers: &mut [u32]) {
+    let s = slim::calls::slim(file, slimmer, numbers);
+    let mut out = line_buffer();
+    let n = slimmed::slimmed(
+        &mut out,
+        0,
+        s.status,
+        s.place,
+        s.words,
+        s.clauses,
+        slimmer,
+        numbers,
+    );
+    write_line(&out, n);
+}
+
+// Lends the words for the slimmer file and for the old numbers that are asked for.
+fn lend_slim(file: &[u32], words: usize, numbers: usize) {
+    let mut slimmer = long_buffer();
+    let mut old = long_buffer();
+    let a = least(words, 20000);
+    let b = least(numbers, 20000);
+    slim_file(file, &mut slimmer[..a], &mut old[..b]);
+}
+
+fn answer_slim(line: &[u8], values: &[usize]) {
+    let mut space = file_buffer();
+    let n = piece::gather(line, request::place(values, 2), &mut space);
+    lend_slim(
+        part::front(&space, n),
+        request::place(values, 0),
+        request::place(values, 1),
+    );
+}
+
 // Room for the values of the longest row.
 fn value_buffer() -> [usize; 8]
     ensures { λ r. ⌜ 8 ≡ length r ⌝ }
@@ -196,6 +234,10 @@ fn answer_request(line: &[u8]) {
         &mut values,
     ) {
         answer_check(line, &values);
+        return;
+    }
+    if request::asks(line, b"slim", b"nnw", &[FILE, NUMBERS, FILE], &mut values) {
+        answer_slim(line, &values);
         return;
     }
     io::write_all(STDOUT_FILENO, b"error\n");

@@ -1,9 +1,12 @@
 // Every public call for C, in one archive: the same names with a prefix, the same arguments in the same order, the same contracts.
 use hukolearu::Outcome;
 use hukolearu::calls;
+use slim::Slimmed;
 ghost use mathlib.Core.Path.{_≡_};
+ghost use lib.ListN.{length};
 ghost use Rattle.hukolearu.specs.Door.{workAfter};
 ghost use Rattle.hukolearu.specs.Calls.{searchCall, searchWith, checkCall, checkWith, atFront};
+ghost use Rattle.slim.specs.Call.{slimCall};
 
 #[no_mangle]
 pub extern "C" fn hukolearu_search(
@@ -35,4 +38,13 @@ pub extern "C" fn hukolearu_check_proof(
     ensures { λ _. ⌜ now (work .exit) ≡ workAfter (now (work .entry)) ⌝ }
 {
     calls::check_proof(file, bound, offered, answer, work)
+}
+
+#[no_mangle]
+pub extern "C" fn hukolearu_slim(file: &[u32], slimmer: &mut [u32], numbers: &mut [u32]) -> Slimmed
+    ensures { λ r. ⌜ r ≡ slimCall (now (file .entry)) (length (now (slimmer .entry))) (length (now (numbers .entry))) .outcome ⌝ }
+    ensures { λ _. ⌜ now (slimmer .exit) ≡ atFront (slimCall (now (file .entry)) (length (now (slimmer .entry))) (length (now (numbers .entry))) .file) (now (slimmer .entry)) ⌝ }
+    ensures { λ _. ⌜ now (numbers .exit) ≡ atFront (slimCall (now (file .entry)) (length (now (slimmer .entry))) (length (now (numbers .entry))) .numbers) (now (numbers .entry)) ⌝ }
+{
+    slim::calls::slim(file, slimmer, numbers)
 }

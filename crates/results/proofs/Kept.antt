@@ -7,7 +7,7 @@ use lib.ListN.{length, take, drop, getD, drop-of-length-le}
 use borrow.Author.Tests.{eq-eqb, ne-eqb, lt-ltb, le-ltb}
 use Rattle.text.proofs.Parts.{part-from, part-length}
 use Rattle.text.proofs.Written.{from-place}
-use Rattle.results.specs.Buffers.{allAre, workKept, kept}
+use Rattle.results.specs.Buffers.{allAre, bothUntouched, workKept, kept}
 
 -- all words the same
 module _ (value : ℕ) (ws : List ℕ) where
@@ -25,6 +25,18 @@ module _ (value : ℕ) (ws : List ℕ) where
     all-more e = s ∙ rw (from-place ws i h, eq-eqb (getD ws i 0) value e)
 
 pub ruleset all-laws = (all-over, all-fails, all-more)
+
+-- two buffers
+module _ (a b : List ℕ) {p : Bool} (ep : p ≡ allAre 0xA5A5A5A5 a) where
+  pub first-not : p ≡ false → false ≡ bothUntouched a b
+  unfolding bothUntouched
+  first-not f = rw (sym ep ∙ f)
+
+  pub second-left : p ≡ true → {r : Bool} → r ≡ allAre 0xA5A5A5A5 b → r ≡ bothUntouched a b
+  unfolding bothUntouched
+  second-left t er = rw (sym ep ∙ t) er
+
+pub ruleset both-laws = (first-not, second-left)
 
 -- the work words by the status
 module _ (status : ℕ) (work : List ℕ) where

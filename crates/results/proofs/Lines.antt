@@ -10,8 +10,8 @@ use Rattle.text.specs.Put.{Put}
 use Rattle.text.specs.Digits.{decimalText, wordsText}
 use Rattle.text.proofs.Putting.{then}
 use Rattle.hukolearu.specs.declared.Outcome.{Outcome}
-use Rattle.results.specs.Buffers.{kept}
-use Rattle.results.specs.Results.{barredText, verdictText, firstNumbersText, lastNumbersText, listsText, outcomeText, foundText, clauseText}
+use Rattle.results.specs.Buffers.{bothUntouched, kept}
+use Rattle.results.specs.Results.{barredText, verdictText, firstNumbersText, lastNumbersText, listsText, outcomeText, foundText, clauseText, countedText, slimmedText}
 
 module _ {out a : List ℕ} {at n : ℕ} where
   pub barred-is : (ws : List ℕ) → Put out at (bytes " / ") a n → {b : List ℕ} {m : ℕ} → Put a n (wordsText ws) b m → Put out at (barredText ws) b m
@@ -24,10 +24,10 @@ module _ {out a : List ℕ} {at n : ℕ} where
   pub verdict-bad : {b : Bool} → b ≡ false → Put out at (bytes " buffers\n") a n → Put out at (verdictText b) a n
   verdict-bad e p = rw e p
 
-  pub lists-are : (steps ws : List ℕ) (intact : Bool) → Put out at (barredText steps) a n → {b : List ℕ} {m : ℕ} → Put a n (barredText ws) b m
-      → {c : List ℕ} {k : ℕ} → Put b m (verdictText intact) c k → Put out at (listsText steps ws intact) c k
+  pub lists-are : (first second : List ℕ) (intact : Bool) → Put out at (barredText first) a n → {b : List ℕ} {m : ℕ} → Put a n (barredText second) b m
+      → {c : List ℕ} {k : ℕ} → Put b m (verdictText intact) c k → Put out at (listsText first second intact) c k
   unfolding listsText
-  lists-are steps ws intact p q r = then (then p q) r
+  lists-are first second intact p q r = then (then p q) r
 
   pub first-are : (o : Outcome) → Put out at (bytes "status " ++ decimalText (o .status)) a n → {b : List ℕ} {m : ℕ} → Put a n (bytes " place " ++ decimalText (o .place)) b m
       → {c : List ℕ} {k : ℕ} → Put b m (bytes " proof " ++ decimalText (o .proof)) c k → Put out at (firstNumbersText o) c k
@@ -67,4 +67,22 @@ module _ {out a : List ℕ} {at n : ℕ} where
   clause-some s [] e p = absurd (e refl)
   clause-some s (w ∷ ws) e p = p
 
-pub ruleset line-laws = (barred-is, verdict-good, verdict-bad, lists-are, first-are, last-are, outcome-is, found-is, clause-none, clause-some)
+  pub counted-is : (status place : ℕ) (name : List ℕ) (count : ℕ) → Put out at (bytes "status " ++ decimalText status) a n
+      → {b : List ℕ} {m : ℕ} → Put a n (bytes " place " ++ decimalText place) b m → {c : List ℕ} {k : ℕ} → Put b m (name ++ decimalText count) c k
+      → Put out at (countedText status place name count) c k
+  unfolding countedText
+  counted-is status place name count p q r =
+      then {a = bytes "status " ++ decimalText status ++ (bytes " place " ++ decimalText place)} (then {a = bytes "status " ++ decimalText status} p q) r
+
+  pub slimmed-is : (status place words clauses : ℕ) (file numbers : List ℕ) → Put out at (countedText status place (bytes " words ") words) a n
+      → {b : List ℕ} {m : ℕ} → Put a n (bytes " clauses " ++ decimalText clauses) b m → {long many : ℕ} → long ≡ words → many ≡ clauses
+      → {front-file front-numbers rest-file rest-numbers : List ℕ}
+      → front-file ≡ take long file → front-numbers ≡ take many numbers → rest-file ≡ drop long file → rest-numbers ≡ drop many numbers
+      → {intact : Bool} → intact ≡ bothUntouched rest-file rest-numbers
+      → {c : List ℕ} {k : ℕ} → Put b m (listsText front-file front-numbers intact) c k → Put out at (slimmedText status place words clauses file numbers) c k
+  unfolding slimmedText
+  slimmed-is status place words clauses file numbers p q el em ff fn rf rn ei r =
+      then {a = countedText status place (bytes " words ") words ++ (bytes " clauses " ++ decimalText clauses)}
+      (then p q) (rw (ei, ff, fn, rf, rn, el, em) at r)
+
+pub ruleset line-laws = (counted-is, slimmed-is, barred-is, verdict-good, verdict-bad, lists-are, first-are, last-are, outcome-is, found-is, clause-none, clause-some)

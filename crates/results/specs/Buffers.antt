@@ -9,6 +9,9 @@ unfoldable pub allAre : ℕ → List ℕ → Bool
 allAre value [] = true
 allAre value (w ∷ ws) = eqb w value && allAre value ws
 
+unfoldable pub bothUntouched : List ℕ → List ℕ → Bool
+bothUntouched a b = allAre 0xA5A5A5A5 a && allAre 0xA5A5A5A5 b
+
 -- status 1 leaves the work words unchanged; all others leave the first 16,384 zero and the rest unchanged
 unfoldable pub workKept : ℕ → List ℕ → Bool
 workKept status work =

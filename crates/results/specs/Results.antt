@@ -6,7 +6,7 @@ use lib.ListN.{length, take, drop}
 use Rattle.text.specs.Quoted.{bytes}
 use Rattle.text.specs.Digits.{decimalText, wordsText}
 use Rattle.hukolearu.specs.declared.Outcome.{Outcome}
-use Rattle.results.specs.Buffers.{kept}
+use Rattle.results.specs.Buffers.{bothUntouched, kept}
 
 -- a list after a bar
 unfoldable pub barredText : List ℕ → List ℕ
@@ -17,6 +17,14 @@ abbrev pub verdictText : Bool → List ℕ
 verdictText true = bytes "\n"
 verdictText false = bytes " buffers\n"
 
+unfoldable pub listsText : List ℕ → List ℕ → Bool → List ℕ
+listsText first second intact = barredText first ++ barredText second ++ verdictText intact
+
+-- a status, its place, and how much was written, under a name
+unfoldable pub countedText : ℕ → ℕ → List ℕ → ℕ → List ℕ
+countedText status place name count =
+    bytes "status " ++ decimalText status ++ (bytes " place " ++ decimalText place) ++ (name ++ decimalText count)
+
 -- OUTCOME: six numbers, the words at the front of the proof buffer, those at the front of the answer buffer
 unfoldable pub firstNumbersText : Outcome → List ℕ
 firstNumbersText o =
@@ -25,9 +33,6 @@ firstNumbersText o =
 unfoldable pub lastNumbersText : Outcome → List ℕ
 lastNumbersText o =
     bytes " disjuncts " ++ decimalText (o .disjuncts) ++ (bytes " answer " ++ decimalText (o .answer)) ++ (bytes " tries " ++ decimalText (o .tries))
-
-unfoldable pub listsText : List ℕ → List ℕ → Bool → List ℕ
-listsText proof answer intact = barredText proof ++ barredText answer ++ verdictText intact
 
 unfoldable pub outcomeText : Outcome → ℕ → List ℕ → List ℕ → List ℕ → List ℕ
 outcomeText o steps proof answer work =
@@ -42,3 +47,9 @@ foundText start ws =
 unfoldable pub clauseText : ℕ → List ℕ → List ℕ
 clauseText start [] = bytes "start - length 0 / -\n"
 clauseText start (w ∷ ws) = foundText start (w ∷ ws)
+
+-- a slimmer file: four numbers, the words at the front of the file's buffer, the clauses' numbers at the front of theirs
+unfoldable pub slimmedText : ℕ → ℕ → ℕ → ℕ → List ℕ → List ℕ → List ℕ
+slimmedText status place words clauses file numbers =
+    countedText status place (bytes " words ") words ++ (bytes " clauses " ++ decimalText clauses)
+    ++ listsText (take words file) (take clauses numbers) (bothUntouched (drop words file) (drop clauses numbers))

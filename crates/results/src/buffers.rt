@@ -1,6 +1,6 @@
 // What is looked for in the lent buffers, which are filled before every call.
 ghost use mathlib.Core.Path.{_≡_};
-ghost use Rattle.results.specs.Buffers.{allAre, workKept, kept};
+ghost use Rattle.results.specs.Buffers.{allAre, bothUntouched, workKept, kept};
 
 fn all(list: &[u32], value: u32) -> bool
     ensures { λ r. ⌜ r ≡ allAre value (now (list .entry)) ⌝ }
@@ -20,6 +20,15 @@ pub fn untouched(list: &[u32]) -> bool
     ensures { λ r. ⌜ r ≡ allAre 0xA5A5A5A5 (now (list .entry)) ⌝ }
 {
     all(list, 0xA5A5A5A5)
+}
+
+pub fn both_untouched(a: &[u32], b: &[u32]) -> bool
+    ensures { λ r. ⌜ r ≡ bothUntouched (now (a .entry)) (now (b .entry)) ⌝ }
+{
+    if untouched(a) {
+        return untouched(b);
+    }
+    false
 }
 
 // The work words are as the status says.

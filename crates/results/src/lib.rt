@@ -3,3 +3,4 @@ pub mod buffers;
 pub mod clause;
 pub mod line;
 pub mod outcome;
+pub mod slimmed;

@@ -1,7 +1,7 @@
 // OUTCOME: the six numbers of a search or a check, the words that it wrote, and whether its buffers are as they should be.
 ghost use mathlib.Core.Path.{_≡_};
 ghost use Rattle.text.specs.Put.{Put};
-ghost use Rattle.results.specs.Results.{firstNumbersText, lastNumbersText, listsText, outcomeText};
+ghost use Rattle.results.specs.Results.{firstNumbersText, lastNumbersText, outcomeText};
 use crate::buffers;
 use crate::line;
 use hukolearu::Outcome;
@@ -25,14 +25,6 @@ fn last_numbers(out: &mut [u8], at: usize, o: Outcome) -> usize
     put::field(out, b, b" tries ", o.tries)
 }
 
-fn lists(out: &mut [u8], at: usize, proof: &[u32], answer: &[u32], intact: bool) -> usize
-    ensures { λ r. ⌜ Put (now (out .entry)) at (listsText (now (proof .entry)) (now (answer .entry)) intact) (now (out .exit)) r ⌝ }
-{
-    let a = line::barred(out, at, proof);
-    let b = line::barred(out, a, answer);
-    line::verdict(out, b, intact)
-}
-
 // The whole buffers are given, with the number of words that were written into the proof buffer.
 pub fn outcome(
     out: &mut [u8],
@@ -54,7 +46,7 @@ pub fn outcome(
     );
     let a = first_numbers(out, at, o);
     let b = last_numbers(out, a, o);
-    lists(
+    line::lists(
         out,
         b,
         part::front(proof, steps),

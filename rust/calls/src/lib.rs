@@ -3,6 +3,7 @@
 mod base;
 mod buffers;
 mod line;
+mod slim;
 
 use engine::Report;
 use line::Line;
@@ -69,6 +70,7 @@ fn perform(engine: &mut impl Engine, line: &Line) -> Option<String> {
         "lookup" => base::lookup(engine, line),
         "search" => base::search(engine, line),
         "check" => base::check(engine, line),
+        "slim" => slim::respond(line),
         _ => None,
     }
 }

@@ -4,6 +4,7 @@ mod borders;
 mod damage;
 mod lines;
 mod noise;
+mod orders;
 pub mod pairs;
 pub mod proofs;
 pub mod random;
@@ -21,7 +22,7 @@ use tables::Asked;
 /// Request lines: first every border, then random ones. At times a comment or an empty line, which has no result, stands before one.
 pub fn requests(seed: u64, count: usize) -> impl Iterator<Item = String> {
     let mut random = Random::new(seed);
-    let borders = borders::all();
+    let borders = [borders::all(), orders::borders()].concat();
     let endless = std::iter::repeat_with(move || with_skipped_lines(&mut random));
     borders.into_iter().chain(endless).take(count)
 }
@@ -37,6 +38,9 @@ fn with_skipped_lines(random: &mut Random) -> String {
 
 fn request(random: &mut Random) -> String {
     let spelling = Spelling::any(random);
+    if random.once_in(4) {
+        return orders::any(random, spelling);
+    }
     match random.below(100) {
         0..=39 => search(random).line(spelling),
         40..=74 => check(random).line(spelling),

@@ -1,7 +1,7 @@
 use borrow.Author.Needs.{needs}
 use Rattle.results.proofs.Lines.{line-laws}
-use Rattle.results.proofs.outcome.lists.Statement.{statement}
-use Rattle.results.proofs.outcome.lists.Tie as tie
+use Rattle.results.proofs.line.lists.Statement.{statement}
+use Rattle.results.proofs.line.lists.Tie as tie
 
 ruleset all = (needs, line-laws)
 

@@ -1,0 +1,15 @@
+pub mod Flags
+pub mod Comparing
+pub mod Marking
+pub mod Partners
+pub mod Walks
+pub mod Repeating
+pub mod Sweeping
+pub mod Settling
+pub mod Copying
+pub mod Telling
+pub mod Settled
+pub mod Alive
+pub mod Promises
+pub mod Narrowly
+pub mod Examples

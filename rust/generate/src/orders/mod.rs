@@ -1,0 +1,23 @@
+//! Requests for the calls of document 02, a module for each.
+
+mod slim;
+
+use crate::lines::Spelling;
+use crate::random::Random;
+
+type Kind = fn(&mut Random, Spelling) -> String;
+
+const KINDS: &[Kind] = &[slim::request];
+
+pub fn any(random: &mut Random, spelling: Spelling) -> String {
+    random.pick(KINDS)(random, spelling)
+}
+
+pub fn borders() -> Vec<String> {
+    [slim::borders()].concat()
+}
+
+/// A length at, just below or just above what is needed, or ample.
+fn room(random: &mut Random, needed: usize, most: usize) -> usize {
+    random.pick(&[needed, needed, needed.saturating_sub(1), needed + 1, 0, most, most]).min(most)
+}

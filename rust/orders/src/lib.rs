@@ -1,0 +1,3 @@
+//! The calls of document 02, written from it alone, each in a module of its own.
+
+pub mod slim;
