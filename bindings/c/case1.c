@@ -48,5 +48,10 @@ int main(void)
     wrong |= says("slimmer file: nothing drops, and the file comes back word for word",
                   slim.status == HUKOLEARU_FOUND && slim.words == 15 && slim.clauses == 2 && same(slimmer, file, 15) && numbers[0] == 0
                       && numbers[1] == 1);
+
+    static const uint32_t records[6] = {7, 3, 1, 7, 3, 2};
+    struct hukolearu_desk desk = hukolearu_ask_desk(records, 6, 7, 3, 1000, 1000, 1000);
+    wrong |= says("desk: a matinee and an evening, two events",
+                  desk.status == HUKOLEARU_FOUND && desk.matinee == 1 && desk.evening == 1 && desk.either == 0);
     return wrong;
 }

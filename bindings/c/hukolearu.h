@@ -42,7 +42,8 @@ enum hukolearu_status {
     HUKOLEARU_STEP_NOT_ALLOWED = 13,
     HUKOLEARU_NOT_UNIFIED = 14,
     HUKOLEARU_LEAVES_OPEN = 15,
-    HUKOLEARU_ANSWER_TOO_LONG = 16
+    HUKOLEARU_ANSWER_TOO_LONG = 16,
+    HUKOLEARU_OUT_OF_RANGE = 24
 };
 
 #define HUKOLEARU_WORK_WORDS 16384
@@ -68,5 +69,18 @@ struct hukolearu_slimmed {
 
 struct hukolearu_slimmed hukolearu_slim(const uint32_t *file, size_t file_words, uint32_t *slimmer, size_t slimmer_words,
                                         uint32_t *numbers, size_t numbers_words);
+
+/* Order 14: the matinee desk. Three words a record: day 1-366, house 1-999, slot 1 matinee, 2 evening, 3 either; a budget of tries for
+ * each of the questions for matinee, for evening and for any slot. Status 0, 11 (a budget ended) or 24 (a number out of range, too many
+ * records, or words left over); the others are 1 where the slot is reported. */
+struct hukolearu_desk {
+    uint32_t status;
+    uint32_t matinee;
+    uint32_t evening;
+    uint32_t either;
+};
+
+struct hukolearu_desk hukolearu_ask_desk(const uint32_t *records, size_t records_words, uint32_t day, uint32_t house,
+                                         uint32_t for_matinee, uint32_t for_evening, uint32_t for_any);
 
 #endif

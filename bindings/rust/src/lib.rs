@@ -23,11 +23,21 @@ pub struct Slimmed {
     pub clauses: u32,
 }
 
+/// What the matinee desk reports (order 14): status 0, 11 or 24, and 1 for each slot that is reported.
+#[repr(C)]
+#[derive(Clone, Copy, Debug, PartialEq, Eq)]
+pub struct Desk {
+    pub status: u32,
+    pub matinee: u32,
+    pub evening: u32,
+    pub either: u32,
+}
+
 pub const WORK_WORDS: usize = 16_384;
 pub const PROOF_WORDS: usize = 199;
 
 mod archive {
-    use super::{Outcome, Slimmed};
+    use super::{Desk, Outcome, Slimmed};
 
     extern "C" {
         #[allow(clippy::too_many_arguments)]
@@ -42,6 +52,9 @@ mod archive {
         pub fn hukolearu_slim(
             file: *const u32, file_words: usize, slimmer: *mut u32, slimmer_words: usize, numbers: *mut u32, numbers_words: usize,
         ) -> Slimmed;
+        pub fn hukolearu_ask_desk(
+            records: *const u32, records_words: usize, day: u32, house: u32, for_matinee: u32, for_evening: u32, for_any: u32,
+        ) -> Desk;
     }
 }
 
@@ -74,6 +87,14 @@ pub fn slim(file: &[u32], slimmer: &mut [u32], numbers: &mut [u32]) -> Slimmed {
         archive::hukolearu_slim(
             file.as_ptr(), file.len(), slimmer.as_mut_ptr(), slimmer.len(), numbers.as_mut_ptr(), numbers.len(),
         )
+    }
+}
+
+/// Asks the matinee desk: three words a record (day, house, slot 1 matinee, 2 evening, 3 either), a budget for each question.
+pub fn ask_desk(records: &[u32], day: u32, house: u32, for_matinee: u32, for_evening: u32, for_any: u32) -> Desk {
+    // SAFETY: as for `search`; the records are only read.
+    unsafe {
+        archive::hukolearu_ask_desk(records.as_ptr(), records.len(), day, house, for_matinee, for_evening, for_any)
     }
 }
 
@@ -112,6 +133,17 @@ mod tests {
         assert_eq!(slimmer, [body[0], body[1], body[2], body[3], 2, 2, fingerprint(&body), 4, 9]);
         assert_eq!(numbers, [1, 3, 9]);
         assert_eq!(slim(&file, &mut slimmer[..7], &mut numbers).status, 16);
+    }
+
+    #[test]
+    fn the_desk_keeps_matinee_and_evening_apart() {
+        let ample = u32::MAX;
+        let says = |records: &[u32]| ask_desk(records, 7, 3, ample, ample, ample);
+        assert_eq!(says(&[7, 3, 1, 7, 3, 2]), Desk { status: 0, matinee: 1, evening: 1, either: 0 });
+        assert_eq!(says(&[7, 3, 3, 7, 3, 2]), Desk { status: 0, matinee: 0, evening: 1, either: 0 });
+        assert_eq!(says(&[7, 3, 3]), Desk { status: 0, matinee: 0, evening: 0, either: 1 });
+        assert_eq!(says(&[7, 3]), Desk { status: 24, matinee: 0, evening: 0, either: 0 });
+        assert_eq!(ask_desk(&[7, 3, 3], 7, 3, 0, 0, 0).status, 11);
     }
 
     #[test]

@@ -8,8 +8,10 @@ use hukolearu::calls;
 use libc::STDIN_FILENO;
 use libc::STDOUT_FILENO;
 use requests::piece;
+use requests::records;
 use requests::request;
 use results::clause;
+use results::desk as said;
 use results::outcome;
 use results::slimmed;
 use text::part;
@@ -28,6 +30,8 @@ const PROOF: u32 = 300;
 const LONG: u32 = 20000;
 
 const NUMBERS: u32 = 600;
+
+const RECORDS: u32 = 600;
 
 fn least(a: usize, b: usize) -> usize
     ensures { λ r. ⌜ r ≡ min a b ⌝ }
@@ -203,6 +207,29 @@ fn answer_slim(line: &[u8], values: &[usize]) {
     );
 }
 
+fn record_buffer() -> [u32; 1800]
+    ensures { λ r. ⌜ 1800 ≡ length r ⌝ }
+{
+    [0; 1800]
+}
+
+fn answer_desk(line: &[u8], values: &[usize]) {
+    let mut space = record_buffer();
+    let n = records::gather(line, request::place(values, 5), &mut space);
+    let report = desk::ask_desk(
+        part::front(&space, n),
+        request::word(values, 3),
+        request::word(values, 4),
+        request::word(values, 0),
+        request::word(values, 1),
+        request::word(values, 2),
+    );
+    let v = desk::values(report);
+    let mut out = io::buffer();
+    let m = said::desk(&mut out, 0, v.status, v.matinee, v.evening, v.either);
+    write_line(&out, m);
+}
+
 // Room for the values of the longest row.
 fn value_buffer() -> [usize; 8]
     ensures { λ r. ⌜ 8 ≡ length r ⌝ }
@@ -238,6 +265,16 @@ fn answer_request(line: &[u8]) {
     }
     if request::asks(line, b"slim", b"nnw", &[FILE, NUMBERS, FILE], &mut values) {
         answer_slim(line, &values);
+        return;
+    }
+    if request::asks(
+        line,
+        b"desk",
+        b"nnnnnr",
+        &[ANY, ANY, ANY, ANY, ANY, RECORDS],
+        &mut values,
+    ) {
+        answer_desk(line, &values);
         return;
     }
     io::write_all(STDOUT_FILENO, b"error\n");

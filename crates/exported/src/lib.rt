@@ -1,4 +1,5 @@
 // Every public call for C, in one archive: the same names with a prefix, the same arguments in the same order, the same contracts.
+use desk::DeskValues;
 use hukolearu::Outcome;
 use hukolearu::calls;
 use slim::Slimmed;
@@ -7,6 +8,7 @@ ghost use lib.ListN.{length};
 ghost use Rattle.hukolearu.specs.Door.{workAfter};
 ghost use Rattle.hukolearu.specs.Calls.{searchCall, searchWith, checkCall, checkWith, atFront};
 ghost use Rattle.slim.specs.Call.{slimCall};
+ghost use Rattle.desk.specs.Desk.{deskSays, valuesOf};
 
 #[no_mangle]
 pub extern "C" fn hukolearu_search(
@@ -47,4 +49,18 @@ pub extern "C" fn hukolearu_slim(file: &[u32], slimmer: &mut [u32], numbers: &mu
     ensures { λ _. ⌜ now (numbers .exit) ≡ atFront (slimCall (now (file .entry)) (length (now (slimmer .entry))) (length (now (numbers .entry))) .numbers) (now (numbers .entry)) ⌝ }
 {
     slim::calls::slim(file, slimmer, numbers)
+}
+
+#[no_mangle]
+pub extern "C" fn hukolearu_ask_desk(
+    records: &[u32],
+    day: u32,
+    house: u32,
+    first: u32,
+    second: u32,
+    third: u32,
+) -> DeskValues
+    ensures { λ r. ⌜ r ≡ valuesOf (deskSays (now (records .entry)) day house first second third) ⌝ }
+{
+    desk::values(desk::ask_desk(records, day, house, first, second, third))
 }

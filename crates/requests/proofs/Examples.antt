@@ -7,11 +7,12 @@ use Prim.Native.String.{String}
 use lib.ListN.{drop}
 use Rattle.text.specs.Quoted.{bytes}
 use Rattle.requests.specs.Pieces.{upTo, pieces, piecesAt, digitOf, valueFrom, numberOf, numberAt, wordOf, sameBytes, leading, runFrom}
+use Rattle.requests.specs.Records.{slotOf, recordOf, recordWords}
 use Rattle.requests.specs.Rows as Rows
-use Rattle.requests.specs.Rows.{wordsAt, barredAt, fieldAt, endsWith, valuesFrom, asks, valuesAsked}
+use Rattle.requests.specs.Rows.{runAt, listAt, barredAt, fieldAt, endsWith, valuesFrom, asks, valuesAsked}
 
 unfoldable opened : Unit {0}
-unfolding upTo pieces piecesAt digitOf valueFrom numberOf numberAt wordOf sameBytes leading runFrom Rows.numberAt wordsAt barredAt fieldAt endsWith valuesFrom asks valuesAsked
+unfolding upTo pieces piecesAt digitOf valueFrom numberOf numberAt wordOf sameBytes leading runFrom slotOf recordOf recordWords Rows.numberAt runAt listAt barredAt fieldAt endsWith valuesFrom asks valuesAsked
 opened = tt
 
 abbrev pub lookup : String → Bool
@@ -68,3 +69,47 @@ nothing-after-the-bar = refl
 pub other-verb : lookup "lookups 0 / -" ≡ false
 unfolding opened
 other-verb = refl
+
+-- the desk's records: two numbers and a slot
+abbrev pub desk : String → Bool
+desk line = asks (bytes line) (bytes "desk") (bytes "nr") (4294967295 ∷ 2 ∷ [])
+
+pub desk-values : valuesAsked (bytes "desk 5 / 12:3:m 007:4294967295:?") (bytes "desk") (bytes "nr") (4294967295 ∷ 2 ∷ []) ≡ 5 ∷ 9 ∷ []
+unfolding opened
+desk-values = refl
+
+pub desk-words : recordWords (piecesAt (bytes "desk 5 / 12:3:m 007:4294967295:?") 9) ≡ 12 ∷ 3 ∷ 1 ∷ 7 ∷ 4294967295 ∷ 0 ∷ []
+unfolding opened
+desk-words = refl
+
+pub no-records : desk "desk 0 / -" ≡ true
+unfolding opened
+no-records = refl
+
+pub last-slots : recordWords (pieces (bytes "0:0:e 0:0:x")) ≡ 0 ∷ 0 ∷ 2 ∷ 0 ∷ 0 ∷ 3 ∷ []
+unfolding opened
+last-slots = refl
+
+pub three-records : desk "desk 0 / 1:1:m 1:1:m 1:1:m" ≡ false
+unfolding opened
+three-records = refl
+
+pub unknown-slot : desk "desk 0 / 1:1:y" ≡ false
+unfolding opened
+unknown-slot = refl
+
+pub record-without-slot : desk "desk 0 / 1:1" ≡ false
+unfolding opened
+record-without-slot = refl
+
+pub record-goes-on : desk "desk 0 / 1:1:m:" ≡ false
+unfolding opened
+record-goes-on = refl
+
+pub record-without-day : desk "desk 0 / :1:m" ≡ false
+unfolding opened
+record-without-day = refl
+
+pub hexadecimal-house : desk "desk 0 / 1:A:m" ≡ false
+unfolding opened
+hexadecimal-house = refl

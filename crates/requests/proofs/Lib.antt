@@ -1,4 +1,5 @@
 pub mod Numbers
 pub mod Lists
 pub mod Rows
+pub mod DeskRecords
 pub mod Examples

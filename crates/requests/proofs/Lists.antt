@@ -12,7 +12,7 @@ use mir.Syntax.{w64}
 use mir.Val.{Fits}
 use borrow.Author.Tests.{eq-eqb, ne-eqb}
 use Rattle.text.specs.Put.{Put}
-use Rattle.requests.specs.Pieces.{upTo, piece, pieces, piecesAt, onto, pieceAt, nextAt, found, wordOf, wordAt, sameBytes, before, leading, onward, runFrom}
+use Rattle.requests.specs.Pieces.{upTo, piece, pieces, piecesAt, onto, pieceAt, nextAt, found, wordOf, wordAt, sameBytes, before, leading, isWord, runFrom}
 use Rattle.requests.specs.declared.piece.Number.{Number}
 use Rattle.requests.specs.declared.piece.Number.the-variants.{Value, Bad}
 use Rattle.requests.specs.declared.piece.Run.{Run}
@@ -34,7 +34,7 @@ front-taken : (b : Bool) (c : ℕ) (ds cs : List ℕ) → take (length ds) cs �
 front-taken true c ds cs e = refl
 front-taken false c ds cs e = ap (λ (l : List ℕ). c ∷ l) e
 
-front-take : (mark : ℕ) (cs : List ℕ) → take (length (upTo mark cs)) cs ≡ upTo mark cs
+pub front-take : (mark : ℕ) (cs : List ℕ) → take (length (upTo mark cs)) cs ≡ upTo mark cs
 unfolding upTo
 front-take mark [] = refl
 front-take mark (c ∷ cs) = front-taken (eqb c mark) c (upTo mark cs) cs (front-take mark cs)
@@ -149,7 +149,7 @@ pieces-split (c ∷ cs) = first-piece (eqb c 32) c cs (pieces-split cs)
 pieces-head : (cs : List ℕ) → pieces cs ≡ piece cs ∷ piecesAt cs (suc (0 + length (piece cs)))
 pieces-head cs = pieces-split cs ∙ ap (λ (n : ℕ). piece cs ∷ piecesAt cs (suc n)) (sym (zero-add (length (piece cs))))
 
-pieces-step : (line : List ℕ) (at : ℕ) → at ≤ length line → piecesAt line at ≡ pieceAt line at ∷ piecesAt line (suc (at + length (pieceAt line at)))
+pub pieces-step : (line : List ℕ) (at : ℕ) → at ≤ length line → piecesAt line at ≡ pieceAt line at ∷ piecesAt line (suc (at + length (pieceAt line at)))
 unfolding piecesAt
 pieces-step [] zero h = pieces-head []
 pieces-step [] (suc at) h = absurd (not-suc-le-zero h)
@@ -157,12 +157,15 @@ pieces-step (c ∷ cs) zero h = pieces-head (c ∷ cs)
 pieces-step (c ∷ cs) (suc at) h =
     let z : suc at + length (pieceAt cs at) ≡ suc (at + length (pieceAt cs at)) = omega arith in rw z (pieces-step cs at (le-of-suc-le-suc h))
 
-pieces-over : (line : List ℕ) (at : ℕ) → length line < at → piecesAt line at ≡ []
+pub pieces-over : (line : List ℕ) (at : ℕ) → length line < at → piecesAt line at ≡ []
 unfolding piecesAt
 pieces-over [] zero h = absurd (not-suc-le-zero h)
 pieces-over [] (suc at) h = refl
 pieces-over (c ∷ cs) zero h = absurd (not-suc-le-zero h)
 pieces-over (c ∷ cs) (suc at) h = pieces-over cs at (le-of-suc-le-suc h)
+
+pub after-piece : (line : List ℕ) (at : ℕ) → at ≤ length line → {next : ℕ} → next ≡ nextAt line at → piecesAt line at ≡ pieceAt line at ∷ piecesAt line next
+after-piece line at h {next} e = let z : next ≡ suc (at + length (pieceAt line at)) = omega (arith, e) in rw z (pieces-step line at h)
 
 -- a piece that is a word, or none
 module _ (line : List ℕ) (at : ℕ) {q : Number} (eq : q ≡ wordAt line at) where
@@ -180,22 +183,21 @@ module _ (line : List ℕ) (at : ℕ) {q : Number} (eq : q ≡ wordAt line at) w
     next-here = found-next (nextAt line at) (wordOf (pieceAt line at)) (sym eq ∙ e)
 
     after-here : at ≤ length line → piecesAt line at ≡ pieceAt line at ∷ piecesAt line next
-    after-here h =
-        let z : next ≡ suc (at + length (pieceAt line at)) = omega (arith, next-here) in rw z (pieces-step line at h)
+    after-here h = after-piece line at h next-here
 
     pub list-falls : at ≤ length line → length line + 1 - next < length line + 1 - at
     list-falls h = omega (arith, next-here)
 
--- words side by side
-pub record Running (line : List ℕ) (from count at : ℕ) : Type 0 where
+-- pieces of a kind side by side
+pub record Running (kind : List ℕ → Bool) (line : List ℕ) (from count at : ℕ) : Type 0 where
   pub few : count ≤ at
-  pub same : runFrom 0 from (piecesAt line from) ≡ runFrom count at (piecesAt line at)
+  pub same : runFrom kind 0 from (piecesAt line from) ≡ runFrom kind count at (piecesAt line at)
 
-pub run-begin : (line : List ℕ) (from : ℕ) → Running line from 0 from
-run-begin line from = record { few = omega arith; same = refl }
+pub run-begin : (kind : List ℕ → Bool) (line : List ℕ) (from : ℕ) → Running kind line from 0 from
+run-begin kind line from = record { few = omega arith; same = refl }
 
-module _ {line : List ℕ} {from count at : ℕ} (g : Running line from count at) where
-  pub run-over : length line < at → record { count = count; next = at } ≡ runFrom 0 from (piecesAt line from)
+module _ {kind : List ℕ → Bool} {line : List ℕ} {from count at : ℕ} (g : Running kind line from count at) where
+  pub run-over : length line < at → record { count = count; next = at } ≡ runFrom kind 0 from (piecesAt line from)
   unfolding runFrom
   run-over h = sym (g .same ∙ rw (pieces-over line at h))
 
@@ -203,17 +205,20 @@ module _ {line : List ℕ} {from count at : ℕ} (g : Running line from count at
     pub run-counts : length line < 2 ^ 63 → Fits w64 (count + 1)
     run-counts k = record { fits = omega (arith, g .few) }
 
-    module _ {q : Number} (eq : q ≡ wordAt line at) where
-      pub run-ends : q ≡ Bad → record { count = count; next = at } ≡ runFrom 0 from (piecesAt line from)
-      unfolding runFrom
-      run-ends b = sym (g .same ∙ rw (pieces-step line at h, none-here line at eq b))
+    pub run-stops : kind (pieceAt line at) ≡ false → record { count = count; next = at } ≡ runFrom kind 0 from (piecesAt line from)
+    unfolding runFrom
+    run-stops b = sym (g .same ∙ rw (pieces-step line at h, b))
 
-      pub run-on : {v next : ℕ} → q ≡ Value v next → Running line from (count + 1) next
-      unfolding runFrom
-      run-on e = record {
-        few = omega (arith, g .few, next-here line at eq e);
-        same = g .same ∙ rw (after-here line at eq e h, word-here line at eq e, ← next-here line at eq e);
-      }
+    pub run-goes : kind (pieceAt line at) ≡ true → {next : ℕ} → next ≡ nextAt line at → Running kind line from (count + 1) next
+    unfolding runFrom
+    run-goes b en = record { few = omega (arith, g .few, en); same = g .same ∙ rw (after-piece line at h en, b, ← en) }
+
+module _ {line : List ℕ} {from count at : ℕ} (g : Running isWord line from count at) (h : at ≤ length line) {q : Number} (eq : q ≡ wordAt line at) where
+  pub run-ends : q ≡ Bad → record { count = count; next = at } ≡ runFrom isWord 0 from (piecesAt line from)
+  run-ends b = run-stops g h (rw (none-here line at eq b))
+
+  pub run-on : {v next : ℕ} → q ≡ Value v next → Running isWord line from (count + 1) next
+  run-on e = run-goes g h (rw (word-here line at eq e)) (next-here line at eq e)
 
 pub ruleset run-laws = (run-begin, run-over, run-counts, run-ends, run-on, list-falls)
 

@@ -90,66 +90,66 @@ unfolding saidBefore
 value-said from at value n = rw (ne-eqb at from n)
 
 -- how far a number has been read
-pub record Reading (base : ℕ) (line : List ℕ) (from at value : ℕ) : Type 0 where
+pub record Reading (mark base : ℕ) (line : List ℕ) (from at value : ℕ) : Type 0 where
   pub low : from ≤ at
   pub high : at ≤ length line
   pub small : value ≤ 4294967295
-  pub values : valueFrom base 0 (pieceAt line from) ≡ valueFrom base value (pieceAt line at)
-  pub places : from + length (pieceAt line from) ≡ at + length (pieceAt line at)
+  pub values : valueFrom base 0 (upTo mark (drop from line)) ≡ valueFrom base value (upTo mark (drop at line))
+  pub places : from + length (upTo mark (drop from line)) ≡ at + length (upTo mark (drop at line))
 
-module _ (base : ℕ) (line : List ℕ) (from : ℕ) where
-  pub past-line : length line < from → Bad ≡ numberAt base line from
+module _ (mark base : ℕ) (line : List ℕ) (from : ℕ) where
+  pub past-line : length line < from → Bad ≡ numberAt mark base line from
   unfolding numberAt numberOf
-  past-line h = rw (mark-over 32 line from (omega arith))
+  past-line h = rw (mark-over mark line from (omega arith))
 
-  pub reading-begins : from ≤ length line → Reading base line from from 0
+  pub reading-begins : from ≤ length line → Reading mark base line from from 0
   reading-begins h = record { low = omega arith; high = h; small = omega arith; values = refl; places = refl }
 
-module _ {base : ℕ} {line : List ℕ} {from at value : ℕ} (g : Reading base line from at value) where
-  ends : pieceAt line at ≡ [] → {r : Number} → r ≡ saidBefore from at value → r ≡ numberAt base line from
+module _ {mark base : ℕ} {line : List ℕ} {from at value : ℕ} (g : Reading mark base line from at value) where
+  ends : upTo mark (drop at line) ≡ [] → {r : Number} → r ≡ saidBefore from at value → r ≡ numberAt mark base line from
   unfolding numberAt valueFrom
   ends e er =
       er
-      ∙ said-is base from at value (pieceAt line from) (rw e at (g .values)) (let l = rw e at (g .places) in omega arith)
+      ∙ said-is base from at value (upTo mark (drop from line)) (rw e at (g .values)) (let l = rw e at (g .places) in omega arith)
 
   pub product-fits : base ≤ 16 → Fits w64 (value * base)
   product-fits b = record { fits = let m = mul-le-mul-right base (g .small) in omega arith }
 
-  pub line-over : length line ≤ at → {r : Number} → r ≡ saidBefore from at value → r ≡ numberAt base line from
-  line-over h er = ends (mark-over 32 line at h) er
+  pub line-over : length line ≤ at → {r : Number} → r ≡ saidBefore from at value → r ≡ numberAt mark base line from
+  line-over h er = ends (mark-over mark line at h) er
 
   module _ (h : at < length line) where
-    pub space-met : getD line at 0 ≡ 32 → {r : Number} → r ≡ saidBefore from at value → r ≡ numberAt base line from
-    space-met s er = ends (mark-met 32 line at h s) er
+    pub mark-reached : getD line at 0 ≡ mark → {r : Number} → r ≡ saidBefore from at value → r ≡ numberAt mark base line from
+    mark-reached s er = ends (mark-met mark line at h s) er
 
-    module _ (n : getD line at 0 ≡ 32 → ⊥) {d : ℕ} (ed : d ≡ digitOf (getD line at 0)) where
-      pub no-digit : base ≤ d → Bad ≡ numberAt base line from
+    module _ (n : getD line at 0 ≡ mark → ⊥) {d : ℕ} (ed : d ≡ digitOf (getD line at 0)) where
+      pub no-digit : base ≤ d → Bad ≡ numberAt mark base line from
       unfolding numberAt valueFrom
       no-digit k =
-          none-said base _ (pieceAt line from)
-          (g .values ∙ rw (mark-ahead 32 line at h n, ← ed, le-leb base d k))
+          none-said base _ (upTo mark (drop from line))
+          (g .values ∙ rw (mark-ahead mark line at h n, ← ed, le-leb base d k))
 
       module _ (k : d < base) where
         pub sum-fits : base ≤ 16 → Fits w64 (value * base + d)
         sum-fits b = record { fits = let m = mul-le-mul-right base (g .small) in omega arith }
 
-        pub too-large : 4294967295 < value * base + d → Bad ≡ numberAt base line from
+        pub too-large : 4294967295 < value * base + d → Bad ≡ numberAt mark base line from
         unfolding numberAt valueFrom
         too-large t =
-            none-said base _ (pieceAt line from)
-            (g .values ∙ rw (mark-ahead 32 line at h n, ← ed, lt-leb base d k, lt-ltb 4294967295 (value * base + d) t))
+            none-said base _ (upTo mark (drop from line))
+            (g .values ∙ rw (mark-ahead mark line at h n, ← ed, lt-leb base d k, lt-ltb 4294967295 (value * base + d) t))
 
-        pub reading-on : value * base + d ≤ 4294967295 → Reading base line from (at + 1) (value * base + d)
+        pub reading-on : value * base + d ≤ 4294967295 → Reading mark base line from (at + 1) (value * base + d)
         unfolding valueFrom
         reading-on t = record {
           low = omega (arith, g .low);
           high = omega arith;
           small = t;
-          values = g .values ∙ rw (mark-ahead 32 line at h n, ← ed, lt-leb base d k, le-ltb 4294967295 (value * base + d) t);
-          places = let p = rw (mark-ahead 32 line at h n) at (g .places) in omega arith;
+          values = g .values ∙ rw (mark-ahead mark line at h n, ← ed, lt-leb base d k, le-ltb 4294967295 (value * base + d) t);
+          places = let p = rw (mark-ahead mark line at h n) at (g .places) in omega arith;
         }
 
-pub ruleset number-laws = (past-line, reading-begins, product-fits, sum-fits, line-over, space-met, no-digit, too-large, reading-on)
+pub ruleset number-laws = (past-line, reading-begins, product-fits, sum-fits, line-over, mark-reached, no-digit, too-large, reading-on)
 
 -- what a piece says, by cases
 pub found-none : (next : ℕ) (o : Option ℕ) → found next o ≡ Bad → o ≡ none
@@ -169,7 +169,7 @@ never true e = e
 never false e = refl
 
 -- a word is a number of few digits
-module _ (line : List ℕ) (at : ℕ) {q : Number} (eq : q ≡ numberAt 16 line at) where
+module _ (line : List ℕ) (at : ℕ) {q : Number} (eq : q ≡ numberAt 32 16 line at) where
   pub no-word : q ≡ Bad → Bad ≡ wordAt line at
   unfolding wordAt wordOf numberAt
   no-word b = rw (never (leb (length (pieceAt line at)) 8) (found-none (nextAt line at) (numberOf 16 (pieceAt line at)) (sym eq ∙ b)))

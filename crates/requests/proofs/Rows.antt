@@ -16,7 +16,7 @@ use Rattle.text.specs.Put.{put, Put}
 use Rattle.text.proofs.Putting.{Left, begin, further as write-on, finish}
 use Rattle.text.proofs.Written.{from-place}
 use Rattle.requests.specs.Pieces.{pieceAt, piecesAt, decimalAt, sameBytes, runFrom}
-use Rattle.requests.specs.Rows.{upTo, numberAt, counted, wordsAt, barredAt, fieldAt, further, endsWith, valueAnd, valuesFrom, asks, valuesAsked}
+use Rattle.requests.specs.Rows.{upTo, numberAt, counted, runAt, wordsAt, recordsAt, listAt, barredAt, fieldAt, further, endsWith, valueAnd, valuesFrom, asks, valuesAsked}
 use Rattle.requests.specs.declared.piece.Number.{Number}
 use Rattle.requests.specs.declared.piece.Number.the-variants.{Value, Bad}
 use Rattle.requests.specs.declared.piece.Run.{Run}
@@ -25,7 +25,7 @@ use Rattle.requests.specs.declared.request.Value.the-variants.{Said, Mis
 use Rattle.requests.proofs.Lists.{front-length, same-lengths}
 
 -- a number
-module _ (limit : ℕ) (line : List ℕ) (at : ℕ) {p : Number} (e : p ≡ decimalAt line at) where
+module _ (limit : ℕ) (line : List ℕ) (at : ℕ) {p : Number} (e : p ≡ decimalAt 32 line at) where
   pub no-number : p ≡ Bad → Missing ≡ numberAt limit line at
   unfolding numberAt
   no-number m = rw (sym e ∙ m)
@@ -47,38 +47,55 @@ mark-fits line at b e t h =
     let one : length (pieceAt line at) ≡ 1 = same-lengths (pieceAt line at) (b ∷ []) (sym e ∙ t) in
     record { fits = omega (arith, front-length 32 (drop at line), length-drop at line) }
 
--- a list of words
-module _ (room : ℕ) (line : List ℕ) (at : ℕ) where
-  module _ {q : Bool} (e : q ≡ sameBytes (pieceAt line at) (bytes "-")) where
-    pub list-none : q ≡ true → Said at (at + 2) ≡ wordsAt room line at
-    unfolding wordsAt
-    list-none t = rw (sym e ∙ t)
+-- so many pieces, and not none
+module _ (room at : ℕ) (run : Run) where
+  pub none-counted : run .count ≡ 0 → Missing ≡ counted room at run
+  none-counted z = rw (eq-eqb (run .count) 0 z)
 
-    module _ (t : q ≡ false) {run : Run} (er : run ≡ runFrom 0 at (piecesAt line at)) where
-      is-counted : wordsAt room line at ≡ counted room at run
-      unfolding wordsAt
-      is-counted = rw (sym e ∙ t, er)
+  module _ (n : run .count ≡ 0 → ⊥) where
+    pub too-many : room < run .count → Missing ≡ counted room at run
+    too-many h = rw (ne-eqb (run .count) 0 n, lt-ltb room (run .count) h)
 
-      pub list-no-words : run .count ≡ 0 → Missing ≡ wordsAt room line at
-      list-no-words z = sym (is-counted ∙ rw (eq-eqb (run .count) 0 z))
+    pub so-many : run .count ≤ room → Said at (run .next) ≡ counted room at run
+    so-many h = rw (ne-eqb (run .count) 0 n, le-ltb room (run .count) h)
 
-      module _ (n : run .count ≡ 0 → ⊥) where
-        pub list-too-long : room < run .count → Missing ≡ wordsAt room line at
-        list-too-long h = sym (is-counted ∙ rw (ne-eqb (run .count) 0 n, lt-ltb room (run .count) h))
+pub ruleset count-laws = (none-counted, too-many, so-many)
 
-        pub list-read : run .count ≤ room → Said at (run .next) ≡ wordsAt room line at
-        list-read h = sym (is-counted ∙ rw (ne-eqb (run .count) 0 n, le-ltb room (run .count) h))
+-- a list of pieces
+module _ (kind : List ℕ → Bool) (room : ℕ) (line : List ℕ) (at : ℕ) {q : Bool} (e : q ≡ sameBytes (pieceAt line at) (bytes "-")) where
+  pub list-none : q ≡ true → Said at (at + 2) ≡ runAt kind room line at
+  unfolding runAt
+  list-none t = rw (sym e ∙ t)
+
+  pub list-some : q ≡ false → {run : Run} → run ≡ runFrom kind 0 at (piecesAt line at) → {p : Read} → p ≡ counted room at run → p ≡ runAt kind room line at
+  unfolding runAt
+  list-some t er ep = rw (sym e ∙ t, ← er) ep
+
+-- a list by its letter, after a bar
+module _ (line : List ℕ) (at letter room : ℕ) where
+  pub list-words : letter ≡ 119 → {p : Read} → p ≡ wordsAt room line at → p ≡ listAt line at letter room
+  unfolding listAt
+  list-words e ep = rw (eq-eqb letter 119 e) ep
+
+  module _ (n : letter ≡ 119 → ⊥) where
+    pub list-records : letter ≡ 114 → {p : Read} → p ≡ recordsAt room line at → p ≡ listAt line at letter room
+    unfolding listAt
+    list-records e ep = rw (ne-eqb letter 119 n, eq-eqb letter 114 e) ep
+
+    pub list-unknown : (letter ≡ 114 → ⊥) → Missing ≡ listAt line at letter room
+    unfolding listAt
+    list-unknown m = rw (ne-eqb letter 119 n, ne-eqb letter 114 m)
 
   module _ {q : Bool} (e : q ≡ sameBytes (pieceAt line at) (bytes "/")) where
-    pub list-barred : q ≡ true → {p : Read} → p ≡ wordsAt room line (at + 2) → p ≡ barredAt room line at
+    pub list-barred : q ≡ true → {p : Read} → p ≡ listAt line (at + 2) letter room → p ≡ barredAt line at letter room
     unfolding barredAt
     list-barred t ep = rw (sym e ∙ t) ep
 
-    pub no-bar : q ≡ false → Missing ≡ barredAt room line at
+    pub no-bar : q ≡ false → Missing ≡ barredAt line at letter room
     unfolding barredAt
     no-bar t = rw (sym e ∙ t)
 
-pub ruleset list-laws = (mark-fits, list-none, list-no-words, list-too-long, list-read, list-barred, no-bar)
+pub ruleset list-laws = (mark-fits, list-none, list-some, list-words, list-records, list-unknown, list-barred, no-bar)
 
 -- a field by its letter
 module _ (line : List ℕ) (at letter most : ℕ) where
@@ -86,16 +103,11 @@ module _ (line : List ℕ) (at letter most : ℕ) where
   unfolding fieldAt
   field-number e ep = rw (eq-eqb letter 110 e) ep
 
-  module _ (n : letter ≡ 110 → ⊥) where
-    pub field-words : letter ≡ 119 → {room : ℕ} → room ≡ most → {p : Read} → p ≡ barredAt room line at → p ≡ fieldAt line at letter most
-    unfolding fieldAt
-    field-words e er ep = rw (ne-eqb letter 110 n, eq-eqb letter 119 e) (rw er at ep)
+  pub field-list : (letter ≡ 110 → ⊥) → {room : ℕ} → room ≡ most → {p : Read} → p ≡ barredAt line at letter room → p ≡ fieldAt line at letter most
+  unfolding fieldAt
+  field-list n er ep = rw (ne-eqb letter 110 n) (rw er at ep)
 
-    pub field-none : (letter ≡ 119 → ⊥) → Missing ≡ fieldAt line at letter most
-    unfolding fieldAt
-    field-none m = rw (ne-eqb letter 110 n, ne-eqb letter 119 m)
-
-pub ruleset field-laws = (field-number, field-words, field-none)
+pub ruleset field-laws = (field-number, field-list)
 
 -- the most that a field may be
 pub most-there : (limits : List ℕ) (i : ℕ) → length limits ≤ i → 0 ≡ getD limits i 0

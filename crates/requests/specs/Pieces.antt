@@ -68,11 +68,12 @@ abbrev pub found : ℕ → Option ℕ → Number
 found next none = Bad
 found next (some value) = Value value next
 
-unfoldable pub numberAt : ℕ → List ℕ → ℕ → Number
-numberAt base line at = found (nextAt line at) (numberOf base (pieceAt line at))
+-- a number goes up to a mark, and what comes next begins after the mark
+unfoldable pub numberAt : ℕ → ℕ → List ℕ → ℕ → Number
+numberAt mark base line at = found (at + length (upTo mark (drop at line)) + 1) (numberOf base (upTo mark (drop at line)))
 
-abbrev pub decimalAt : List ℕ → ℕ → Number
-decimalAt line at = numberAt 10 line at
+abbrev pub decimalAt : ℕ → List ℕ → ℕ → Number
+decimalAt mark line at = numberAt mark 10 line at
 
 unfoldable pub wordAt : List ℕ → ℕ → Number
 wordAt line at = found (nextAt line at) (wordOf (pieceAt line at))
@@ -93,11 +94,14 @@ unfoldable pub leading : List (List ℕ) → List ℕ
 leading [] = []
 leading (p ∷ ps) = before (wordOf p) (leading ps)
 
--- how many words stand side by side, and where the first piece that is no word begins
-abbrev pub onward : Option ℕ → Run → Run → Run
-onward none here later = here
-onward (some w) here later = later
+abbrev pub present : Option ℕ → Bool
+present none = false
+present (some w) = true
 
-unfoldable pub runFrom : ℕ → ℕ → List (List ℕ) → Run
-runFrom count at [] = record { count = count; next = at }
-runFrom count at (p ∷ ps) = onward (wordOf p) (record { count = count; next = at }) (runFrom (count + 1) (at + length p + 1) ps)
+abbrev pub isWord : List ℕ → Bool
+isWord p = present (wordOf p)
+
+-- how many pieces of a kind stand side by side, and where the first that is of another begins
+unfoldable pub runFrom : (List ℕ → Bool) → ℕ → ℕ → List (List ℕ) → Run
+runFrom kind count at [] = record { count = count; next = at }
+runFrom kind count at (p ∷ ps) = cond (kind p) (runFrom kind (count + 1) (at + length p + 1) ps) (record { count = count; next = at })

@@ -7,7 +7,8 @@ use lib.Dec.{eqb, leb, ltb}
 use Prim.Native.Char.{code}
 use lib.ListN.{length, drop, getD}
 use Rattle.text.specs.Quoted.{bytes}
-use Rattle.requests.specs.Pieces.{pieceAt, piecesAt, decimalAt, sameBytes, runFrom}
+use Rattle.requests.specs.Pieces.{pieceAt, piecesAt, decimalAt, sameBytes, isWord, runFrom}
+use Rattle.requests.specs.Records.{isRecord}
 use Rattle.requests.specs.declared.piece.Number.{Number}
 use Rattle.requests.specs.declared.piece.Number.the-variants.{Value, Bad}
 use Rattle.requests.specs.declared.piece.Run.{Run}
@@ -20,23 +21,34 @@ upTo limit (Value n next) = cond (ltb limit n) Missing (Said n next)
 upTo limit Bad = Missing
 
 unfoldable pub numberAt : ℕ → List ℕ → ℕ → Read
-numberAt limit line at = upTo limit (decimalAt line at)
+numberAt limit line at = upTo limit (decimalAt (code " ") line at)
 
--- words: `-` stands for none; else there are one or more, up to so many
+-- pieces of a kind: `-` stands for none; else there are one or more, up to so many
 abbrev pub counted : ℕ → ℕ → Run → Read
 counted room at run = cond (eqb (run .count) 0) Missing (cond (ltb room (run .count)) Missing (Said at (run .next)))
 
-unfoldable pub wordsAt : ℕ → List ℕ → ℕ → Read
-wordsAt room line at = cond (sameBytes (pieceAt line at) (bytes "-")) (Said at (at + 2)) (counted room at (runFrom 0 at (piecesAt line at)))
+unfoldable pub runAt : (List ℕ → Bool) → ℕ → List ℕ → ℕ → Read
+runAt kind room line at =
+    cond (sameBytes (pieceAt line at) (bytes "-")) (Said at (at + 2)) (counted room at (runFrom kind 0 at (piecesAt line at)))
+
+abbrev pub wordsAt : ℕ → List ℕ → ℕ → Read
+wordsAt room line at = runAt isWord room line at
+
+abbrev pub recordsAt : ℕ → List ℕ → ℕ → Read
+recordsAt room line at = runAt isRecord room line at
+
+-- a list by its letter: `w`, words; `r`, records
+unfoldable pub listAt : List ℕ → ℕ → ℕ → ℕ → Read
+listAt line at letter room =
+    cond (eqb letter (code "w")) (wordsAt room line at) (cond (eqb letter (code "r")) (recordsAt room line at) Missing)
 
 -- a list comes after a bar
-unfoldable pub barredAt : ℕ → List ℕ → ℕ → Read
-barredAt room line at = cond (sameBytes (pieceAt line at) (bytes "/")) (wordsAt room line (at + 2)) Missing
+unfoldable pub barredAt : List ℕ → ℕ → ℕ → ℕ → Read
+barredAt line at letter room = cond (sameBytes (pieceAt line at) (bytes "/")) (listAt line (at + 2) letter room) Missing
 
--- a field by its letter: `n`, a number; `w`, words
+-- a field by its letter: `n`, a number; else a list
 unfoldable pub fieldAt : List ℕ → ℕ → ℕ → ℕ → Read
-fieldAt line at letter most =
-    cond (eqb letter (code "n")) (numberAt most line at) (cond (eqb letter (code "w")) (barredAt most line at) Missing)
+fieldAt line at letter most = cond (eqb letter (code "n")) (numberAt most line at) (barredAt line at letter most)
 
 -- the line ends with the fields of a row
 abbrev pub further : Read → (ℕ → Bool) → Bool

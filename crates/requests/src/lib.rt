@@ -1,3 +1,4 @@
 // The line protocol of `calls`, read: a line's pieces, and the fields of a request.
 pub mod piece;
+pub mod records;
 pub mod request;

@@ -2,7 +2,7 @@
 ghost use mathlib.Core.Path.{_≡_};
 ghost use Prim.Native.Nat.{_+_, _^_, _≤_, _<_};
 ghost use lib.ListN.{length, drop};
-ghost use Rattle.requests.specs.Pieces.{upTo, digitOf, pieceAt, piecesAt, numberAt, decimalAt, wordAt, sameBytes, runFrom, leading};
+ghost use Rattle.requests.specs.Pieces.{upTo, digitOf, pieceAt, piecesAt, numberAt, decimalAt, wordAt, sameBytes, isWord, runFrom, leading};
 ghost use Rattle.text.specs.Put.{Put};
 ghost use Rattle.requests.specs.Reading.{saidBefore};
 use text::put;
@@ -13,7 +13,7 @@ pub enum Number {
     Bad,
 }
 
-// How many words stand side by side, and where the first piece that is no word begins.
+// How many pieces of a kind stand side by side, and where the first that is of another begins.
 pub struct Run {
     pub count: usize,
     pub next: usize,
@@ -55,10 +55,10 @@ fn said(from: usize, at: usize, value: u64) -> Number
     Number::Value(value as u32, at + 1)
 }
 
-// The piece as a number in a base.
-fn numeral(line: &[u8], from: usize, base: u64) -> Number
+// The bytes up to a mark as a number in a base.
+fn numeral(line: &[u8], from: usize, mark: u8, base: u64) -> Number
     requires { ⌜ (2 ≤ base) × (base ≤ 16) ⌝ }
-    ensures { λ r. ⌜ r ≡ numberAt base (now (line .entry)) from ⌝ }
+    ensures { λ r. ⌜ r ≡ numberAt mark base (now (line .entry)) from ⌝ }
 {
     if line.len() < from {
         return Number::Bad;
@@ -67,7 +67,7 @@ fn numeral(line: &[u8], from: usize, base: u64) -> Number
     let mut value: u64 = 0;
     while at < line.len() {
         let c = line[at];
-        if c == b' ' {
+        if c == mark {
             return said(from, at, value);
         }
         let d = digit(c);
@@ -83,17 +83,17 @@ fn numeral(line: &[u8], from: usize, base: u64) -> Number
     said(from, at, value)
 }
 
-pub fn decimal(line: &[u8], at: usize) -> Number
-    ensures { λ r. ⌜ r ≡ decimalAt (now (line .entry)) at ⌝ }
+pub fn decimal(line: &[u8], at: usize, mark: u8) -> Number
+    ensures { λ r. ⌜ r ≡ decimalAt mark (now (line .entry)) at ⌝ }
 {
-    numeral(line, at, 10)
+    numeral(line, at, mark, 10)
 }
 
 // A word has one to eight hexadecimal digits.
 pub fn word(line: &[u8], at: usize) -> Number
     ensures { λ r. ⌜ r ≡ wordAt (now (line .entry)) at ⌝ }
 {
-    let read = numeral(line, at, 16);
+    let read = numeral(line, at, b' ', 16);
     let Number::Value(value, next) = read else {
         return Number::Bad;
     };
@@ -146,7 +146,7 @@ pub fn is(line: &[u8], at: usize, text: &[u8]) -> bool
 
 // The words side by side from a position on.
 pub fn words(line: &[u8], from: usize) -> Run
-    ensures { λ r. ⌜ r ≡ runFrom 0 from (piecesAt (now (line .entry)) from) ⌝ }
+    ensures { λ r. ⌜ r ≡ runFrom isWord 0 from (piecesAt (now (line .entry)) from) ⌝ }
 {
     let mut at = from;
     let mut count = 0;

@@ -1,12 +1,14 @@
-// A request of the line protocol: a verb, and the fields of its row. A row is told by a letter for each field, `n` for a number and
-// `w` for a list of words, and by the most that each may be: a number's limit, a list's length.
+// A request of the line protocol: a verb, and the fields of its row. A row is told by a letter for each field, `n` for a number,
+// `w` for a list of words and `r` for one of records, and by the most that each may be: a number's limit, a list's length.
 ghost use mathlib.Core.Path.{_≡_};
 ghost use Prim.Native.Nat.{min};
 ghost use lib.ListN.{getD};
 ghost use Rattle.text.specs.Put.{put};
-ghost use Rattle.requests.specs.Rows.{numberAt, wordsAt, barredAt, fieldAt, endsWith, valuesFrom, asks, valuesAsked};
+ghost use Rattle.requests.specs.Rows.{numberAt, counted, wordsAt, recordsAt, listAt, barredAt, fieldAt, endsWith, valuesFrom, asks, valuesAsked};
 use crate::piece;
 use crate::piece::Number;
+use crate::piece::Run;
+use crate::records;
 use text::put;
 use words::fields::wide;
 
@@ -19,7 +21,7 @@ pub enum Value {
 fn number(line: &[u8], at: usize, limit: u32) -> Value
     ensures { λ r. ⌜ r ≡ numberAt limit (now (line .entry)) at ⌝ }
 {
-    let said = piece::decimal(line, at);
+    let said = piece::decimal(line, at, b' ');
     let Number::Value(n, next) = said else {
         return Value::Missing;
     };
@@ -29,13 +31,10 @@ fn number(line: &[u8], at: usize, limit: u32) -> Value
     Value::Said(n as usize, next)
 }
 
-fn words(line: &[u8], at: usize, room: usize) -> Value
-    ensures { λ r. ⌜ r ≡ wordsAt room (now (line .entry)) at ⌝ }
+// So many, and not none.
+fn counted(at: usize, room: usize, run: Run) -> Value
+    ensures { λ r. ⌜ r ≡ counted room at run ⌝ }
 {
-    if piece::is(line, at, b"-") {
-        return Value::Said(at, at + 2);
-    }
-    let run = piece::words(line, at);
     let count = run.count;
     if count == 0 {
         return Value::Missing;
@@ -46,12 +45,42 @@ fn words(line: &[u8], at: usize, room: usize) -> Value
     Value::Said(at, run.next)
 }
 
+fn words(line: &[u8], at: usize, room: usize) -> Value
+    ensures { λ r. ⌜ r ≡ wordsAt room (now (line .entry)) at ⌝ }
+{
+    if piece::is(line, at, b"-") {
+        return Value::Said(at, at + 2);
+    }
+    counted(at, room, piece::words(line, at))
+}
+
+fn records(line: &[u8], at: usize, room: usize) -> Value
+    ensures { λ r. ⌜ r ≡ recordsAt room (now (line .entry)) at ⌝ }
+{
+    if piece::is(line, at, b"-") {
+        return Value::Said(at, at + 2);
+    }
+    counted(at, room, records::records(line, at))
+}
+
+fn list(line: &[u8], at: usize, letter: u8, room: usize) -> Value
+    ensures { λ r. ⌜ r ≡ listAt (now (line .entry)) at letter room ⌝ }
+{
+    if letter == b'w' {
+        return words(line, at, room);
+    }
+    if letter == b'r' {
+        return records(line, at, room);
+    }
+    Value::Missing
+}
+
 // A list comes after a bar.
-fn barred(line: &[u8], at: usize, room: usize) -> Value
-    ensures { λ r. ⌜ r ≡ barredAt room (now (line .entry)) at ⌝ }
+fn barred(line: &[u8], at: usize, letter: u8, room: usize) -> Value
+    ensures { λ r. ⌜ r ≡ barredAt (now (line .entry)) at letter room ⌝ }
 {
     if piece::is(line, at, b"/") {
-        return words(line, at + 2, room);
+        return list(line, at + 2, letter, room);
     }
     Value::Missing
 }
@@ -62,10 +91,7 @@ fn field(line: &[u8], at: usize, letter: u8, most: u32) -> Value
     if letter == b'n' {
         return number(line, at, most);
     }
-    if letter == b'w' {
-        return barred(line, at, wide(most));
-    }
-    Value::Missing
+    barred(line, at, letter, wide(most))
 }
 
 fn most_at(limits: &[u32], i: usize) -> u32

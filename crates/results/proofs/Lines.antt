@@ -11,7 +11,7 @@ use Rattle.text.specs.Digits.{decimalText, wordsText}
 use Rattle.text.proofs.Putting.{then}
 use Rattle.hukolearu.specs.declared.Outcome.{Outcome}
 use Rattle.results.specs.Buffers.{bothUntouched, kept}
-use Rattle.results.specs.Results.{barredText, verdictText, firstNumbersText, lastNumbersText, listsText, outcomeText, foundText, clauseText, countedText, slimmedText}
+use Rattle.results.specs.Results.{barredText, verdictText, firstNumbersText, lastNumbersText, listsText, outcomeText, foundText, clauseText, countedText, slimmedText, slotsText, deskText}
 
 module _ {out a : List ℕ} {at n : ℕ} where
   pub barred-is : (ws : List ℕ) → Put out at (bytes " / ") a n → {b : List ℕ} {m : ℕ} → Put a n (wordsText ws) b m → Put out at (barredText ws) b m
@@ -85,4 +85,18 @@ module _ {out a : List ℕ} {at n : ℕ} where
       then {a = countedText status place (bytes " words ") words ++ (bytes " clauses " ++ decimalText clauses)}
       (then p q) (rw (ei, ff, fn, rf, rn, el, em) at r)
 
-pub ruleset line-laws = (counted-is, slimmed-is, barred-is, verdict-good, verdict-bad, lists-are, first-are, last-are, outcome-is, found-is, clause-none, clause-some)
+  pub slots-are : (matinee evening either : ℕ) → Put out at (bytes " matinee " ++ decimalText matinee) a n
+      → {b : List ℕ} {m : ℕ} → Put a n (bytes " evening " ++ decimalText evening) b m → {c : List ℕ} {k : ℕ} → Put b m (bytes " either " ++ decimalText either) c k
+      → Put out at (slotsText matinee evening either) c k
+  unfolding slotsText
+  slots-are matinee evening either p q r =
+      then {a = bytes " matinee " ++ decimalText matinee ++ (bytes " evening " ++ decimalText evening)} (then {a = bytes " matinee " ++ decimalText matinee} p q) r
+
+  pub desk-is : (status matinee evening either : ℕ) → Put out at (bytes "status " ++ decimalText status) a n
+      → {b : List ℕ} {m : ℕ} → Put a n (slotsText matinee evening either) b m → {c : List ℕ} {k : ℕ} → Put b m (bytes "\n") c k
+      → Put out at (deskText status matinee evening either) c k
+  unfolding deskText
+  desk-is status matinee evening either p q r =
+      then {a = bytes "status " ++ decimalText status ++ slotsText matinee evening either} (then {a = bytes "status " ++ decimalText status} p q) r
+
+pub ruleset line-laws = (counted-is, slimmed-is, slots-are, desk-is, barred-is, verdict-good, verdict-bad, lists-are, first-are, last-are, outcome-is, found-is, clause-none, clause-some)

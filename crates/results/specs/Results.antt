@@ -53,3 +53,11 @@ unfoldable pub slimmedText : ℕ → ℕ → ℕ → ℕ → List ℕ → List �
 slimmedText status place words clauses file numbers =
     countedText status place (bytes " words ") words ++ (bytes " clauses " ++ decimalText clauses)
     ++ listsText (take words file) (take clauses numbers) (bothUntouched (drop words file) (drop clauses numbers))
+
+-- the desk: the status, and what it says of a matinee, of an evening and of any slot
+unfoldable pub slotsText : ℕ → ℕ → ℕ → List ℕ
+slotsText matinee evening either =
+    bytes " matinee " ++ decimalText matinee ++ (bytes " evening " ++ decimalText evening) ++ (bytes " either " ++ decimalText either)
+
+unfoldable pub deskText : ℕ → ℕ → ℕ → ℕ → List ℕ
+deskText status matinee evening either = bytes "status " ++ decimalText status ++ slotsText matinee evening either ++ bytes "\n"

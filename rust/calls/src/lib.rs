@@ -2,6 +2,7 @@
 
 mod base;
 mod buffers;
+mod desk;
 mod line;
 mod slim;
 
@@ -70,6 +71,7 @@ fn perform(engine: &mut impl Engine, line: &Line) -> Option<String> {
         "lookup" => base::lookup(engine, line),
         "search" => base::search(engine, line),
         "check" => base::check(engine, line),
+        "desk" => desk::respond(line),
         "slim" => slim::respond(line),
         _ => None,
     }

@@ -1,3 +1,4 @@
 //! The calls of document 02, written from it alone, each in a module of its own.
 
+pub mod desk;
 pub mod slim;

@@ -1,5 +1,6 @@
 //! Requests for the calls of document 02, a module for each.
 
+mod desk;
 mod slim;
 
 use crate::lines::Spelling;
@@ -7,14 +8,14 @@ use crate::random::Random;
 
 type Kind = fn(&mut Random, Spelling) -> String;
 
-const KINDS: &[Kind] = &[slim::request];
+const KINDS: &[Kind] = &[desk::request, slim::request];
 
 pub fn any(random: &mut Random, spelling: Spelling) -> String {
     random.pick(KINDS)(random, spelling)
 }
 
 pub fn borders() -> Vec<String> {
-    [slim::borders()].concat()
+    [desk::borders(), slim::borders()].concat()
 }
 
 /// A length at, just below or just above what is needed, or ample.

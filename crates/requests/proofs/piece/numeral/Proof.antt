@@ -8,10 +8,10 @@ use Rattle.requests.proofs.piece.numeral.Tie as tie
 ruleset all = (needs, number-laws)
 
 abbrev Inv-loop : tie.InvT-loop
-Inv-loop line from base at₀ value₀ at value = Reading base line from at value
+Inv-loop line from mark base at₀ value₀ at value = Reading mark base line from at value
 
 abbrev μ-loop : tie.MeasureT-loop
-μ-loop line from base at₀ value₀ at value = length line - at
+μ-loop line from mark base at₀ value₀ at value = length line - at
 
 pub numeral-spec : {M : Type 1} → statement M
 numeral-spec =

@@ -13,5 +13,4 @@ field-spec =
     (λ c. search all)
     (λ c κs. search all)
     (λ c κs. search all)
-    (λ c. search all)
     (λ c. search all))

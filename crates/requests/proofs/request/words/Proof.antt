@@ -14,6 +14,5 @@ words-spec =
     (λ c. let args = c .before .before .before .before .args in mark-fits (args .line .now) (args .at) _ (c .before .is .ensures) (c .if1 .taken) (search needs))
     (λ c. search all)
     (λ c κs. search all)
-    (λ c. search all)
-    (λ c. search all)
+    (λ c κs. search all)
     (λ c. search all))

@@ -1,0 +1,13 @@
+pub mod Bools
+pub mod Meeting
+pub mod Going
+pub mod Heard
+pub mod Looking
+pub mod Words
+pub mod Writing
+pub mod Answering
+pub mod ByTruth
+pub mod Reporting
+pub mod Promises
+pub mod Examples
+pub mod Unique

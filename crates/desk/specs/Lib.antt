@@ -1,0 +1,5 @@
+pub mod Records
+pub mod Desk
+pub mod Promises
+pub mod Clauses
+pub mod Asking
