@@ -53,5 +53,10 @@ int main(void)
     struct hukolearu_desk desk = hukolearu_ask_desk(records, 6, 7, 3, 1000, 1000, 1000);
     wrong |= says("desk: a matinee and an evening, two events",
                   desk.status == HUKOLEARU_FOUND && desk.matinee == 1 && desk.evening == 1 && desk.either == 0);
+
+    struct hukolearu_least least = hukolearu_smallest(file, 15, 32, 7, proof, 199, answer, 64, work, 16384);
+    wrong |= says("smallest bound: 2, after 0 + 4 + 3 tries",
+                  least.bound == 2 && least.outcome.status == HUKOLEARU_FOUND && least.outcome.tries == 7 && same(proof, steps, 2)
+                      && same(answer, words, 6));
     return wrong;
 }

@@ -83,4 +83,14 @@ struct hukolearu_desk {
 struct hukolearu_desk hukolearu_ask_desk(const uint32_t *records, size_t records_words, uint32_t day, uint32_t house,
                                          uint32_t for_matinee, uint32_t for_evening, uint32_t for_any);
 
+/* Order 6: the least bound up to a limit at which there is a proof. The bound is 0 unless the status is 0 or 16; the tries are summed. */
+struct hukolearu_least {
+    uint32_t bound;
+    struct hukolearu_outcome outcome;
+};
+
+struct hukolearu_least hukolearu_smallest(const uint32_t *file, size_t file_words, uint32_t limit, uint32_t budget,
+                                          uint32_t *proof, size_t proof_words, uint32_t *answer, size_t answer_words,
+                                          uint32_t *work, size_t work_words);
+
 #endif

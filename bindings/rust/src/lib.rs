@@ -33,11 +33,19 @@ pub struct Desk {
     pub either: u32,
 }
 
+/// The smallest bound (order 6): 0 unless the status is 0 or 16; the tries are summed over the bounds.
+#[repr(C)]
+#[derive(Clone, Copy, Debug, PartialEq, Eq)]
+pub struct Least {
+    pub bound: u32,
+    pub outcome: Outcome,
+}
+
 pub const WORK_WORDS: usize = 16_384;
 pub const PROOF_WORDS: usize = 199;
 
 mod archive {
-    use super::{Desk, Outcome, Slimmed};
+    use super::{Desk, Least, Outcome, Slimmed};
 
     extern "C" {
         #[allow(clippy::too_many_arguments)]
@@ -55,6 +63,11 @@ mod archive {
         pub fn hukolearu_ask_desk(
             records: *const u32, records_words: usize, day: u32, house: u32, for_matinee: u32, for_evening: u32, for_any: u32,
         ) -> Desk;
+        #[allow(clippy::too_many_arguments)]
+        pub fn hukolearu_smallest(
+            file: *const u32, file_words: usize, limit: u32, budget: u32, proof: *mut u32, proof_words: usize,
+            answer: *mut u32, answer_words: usize, work: *mut u32, work_words: usize,
+        ) -> Least;
     }
 }
 
@@ -95,6 +108,17 @@ pub fn ask_desk(records: &[u32], day: u32, house: u32, for_matinee: u32, for_eve
     // SAFETY: as for `search`; the records are only read.
     unsafe {
         archive::hukolearu_ask_desk(records.as_ptr(), records.len(), day, house, for_matinee, for_evening, for_any)
+    }
+}
+
+/// Looks for the least bound up to a limit at which there is a proof, with lent buffers.
+pub fn smallest(file: &[u32], limit: u32, budget: u32, proof: &mut [u32], answer: &mut [u32], work: &mut [u32]) -> Least {
+    // SAFETY: as for `search`.
+    unsafe {
+        archive::hukolearu_smallest(
+            file.as_ptr(), file.len(), limit, budget, proof.as_mut_ptr(), proof.len(),
+            answer.as_mut_ptr(), answer.len(), work.as_mut_ptr(), work.len(),
+        )
     }
 }
 
@@ -144,6 +168,15 @@ mod tests {
         assert_eq!(says(&[7, 3, 3]), Desk { status: 0, matinee: 0, evening: 0, either: 1 });
         assert_eq!(says(&[7, 3]), Desk { status: 24, matinee: 0, evening: 0, either: 0 });
         assert_eq!(ask_desk(&[7, 3, 3], 7, 3, 0, 0, 0).status, 11);
+    }
+
+    #[test]
+    fn the_smallest_bound_of_case_1_is_2() {
+        let (mut proof, mut answer, mut work) = ([9; PROOF_WORDS], [9; 6], vec![9; WORK_WORDS]);
+        let found = Outcome { status: 0, place: 0, proof: 2, disjuncts: 2, answer: 6, tries: 7 };
+        assert_eq!(smallest(&CASE_1, 32, 7, &mut proof, &mut answer, &mut work), Least { bound: 2, outcome: found });
+        let out = Outcome { status: 11, place: 0, proof: 0, disjuncts: 0, answer: 0, tries: 6 };
+        assert_eq!(smallest(&CASE_1, 32, 6, &mut proof, &mut answer, &mut work), Least { bound: 0, outcome: out });
     }
 
     #[test]

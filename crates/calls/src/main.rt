@@ -12,6 +12,7 @@ use requests::records;
 use requests::request;
 use results::clause;
 use results::desk as said;
+use results::least;
 use results::outcome;
 use results::slimmed;
 use text::part;
@@ -59,6 +60,12 @@ fn report(o: Outcome, steps: usize, proof: &[u32], answer: &[u32], work: &[u32])
     write_line(&out, n);
 }
 
+// The calls that are asked as a search is.
+enum Run {
+    Search,
+    Smallest,
+}
+
 fn search(
     file: &[u32],
     bound: u32,
@@ -69,6 +76,36 @@ fn search(
 ) {
     let o = calls::search(file, bound, budget, proof, answer, work);
     report(o, wide(o.proof), proof, answer, work);
+}
+
+fn find_smallest(
+    file: &[u32],
+    limit: u32,
+    budget: u32,
+    proof: &mut [u32],
+    answer: &mut [u32],
+    work: &mut [u32],
+) {
+    let l = smallest::smallest(file, limit, budget, proof, answer, work);
+    let o = l.outcome;
+    let mut out = line_buffer();
+    let n = least::least(&mut out, 0, l.bound, o, wide(o.proof), proof, answer, work);
+    write_line(&out, n);
+}
+
+fn find(
+    run: Run,
+    file: &[u32],
+    bound: u32,
+    budget: u32,
+    proof: &mut [u32],
+    answer: &mut [u32],
+    work: &mut [u32],
+) {
+    match run {
+        Run::Search => search(file, bound, budget, proof, answer, work),
+        Run::Smallest => find_smallest(file, bound, budget, proof, answer, work),
+    }
 }
 
 fn check(file: &[u32], bound: u32, offered: &[u32], answer: &mut [u32], work: &mut [u32]) {
@@ -104,6 +141,7 @@ fn file_buffer() -> [u32; 16100]
 
 // Lends the work words and answer words that are asked for.
 fn lend_search(
+    run: Run,
     file: &[u32],
     bound: u32,
     budget: u32,
@@ -115,7 +153,15 @@ fn lend_search(
     let mut work = long_buffer();
     let a = least(answers, 20000);
     let w = least(works, 20000);
-    search(file, bound, budget, proof, &mut answer[..a], &mut work[..w]);
+    find(
+        run,
+        file,
+        bound,
+        budget,
+        proof,
+        &mut answer[..a],
+        &mut work[..w],
+    );
 }
 
 fn lend_check(file: &[u32], bound: u32, offered: &[u32], answers: usize, works: usize) {
@@ -126,16 +172,25 @@ fn lend_check(file: &[u32], bound: u32, offered: &[u32], answers: usize, works: 
     check(file, bound, offered, &mut answer[..a], &mut work[..w]);
 }
 
-fn lend_proof(file: &[u32], bound: u32, budget: u32, proofs: usize, answers: usize, works: usize) {
+fn lend_proof(
+    run: Run,
+    file: &[u32],
+    bound: u32,
+    budget: u32,
+    proofs: usize,
+    answers: usize,
+    works: usize,
+) {
     let mut proof = short_buffer();
     let p = least(proofs, 300);
-    lend_search(file, bound, budget, &mut proof[..p], answers, works);
+    lend_search(run, file, bound, budget, &mut proof[..p], answers, works);
 }
 
-fn answer_search(line: &[u8], values: &[usize]) {
+fn answer_search(run: Run, line: &[u8], values: &[usize]) {
     let mut space = file_buffer();
     let n = piece::gather(line, request::place(values, 5), &mut space);
     lend_proof(
+        run,
         part::front(&space, n),
         request::word(values, 0),
         request::word(values, 1),
@@ -250,7 +305,17 @@ fn answer_request(line: &[u8]) {
         &[ANY, ANY, LONG, PROOF, LONG, FILE],
         &mut values,
     ) {
-        answer_search(line, &values);
+        answer_search(Run::Search, line, &values);
+        return;
+    }
+    if request::asks(
+        line,
+        b"smallest",
+        b"nnnnnw",
+        &[ANY, ANY, LONG, PROOF, LONG, FILE],
+        &mut values,
+    ) {
+        answer_search(Run::Smallest, line, &values);
         return;
     }
     if request::asks(

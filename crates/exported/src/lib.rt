@@ -3,12 +3,14 @@ use desk::DeskValues;
 use hukolearu::Outcome;
 use hukolearu::calls;
 use slim::Slimmed;
+use smallest::Least;
 ghost use mathlib.Core.Path.{_≡_};
 ghost use lib.ListN.{length};
 ghost use Rattle.hukolearu.specs.Door.{workAfter};
 ghost use Rattle.hukolearu.specs.Calls.{searchCall, searchWith, checkCall, checkWith, atFront};
 ghost use Rattle.slim.specs.Call.{slimCall};
 ghost use Rattle.desk.specs.Desk.{deskSays, valuesOf};
+ghost use Rattle.smallest.specs.Smallest.{smallestCall};
 
 #[no_mangle]
 pub extern "C" fn hukolearu_search(
@@ -63,4 +65,22 @@ pub extern "C" fn hukolearu_ask_desk(
     ensures { λ r. ⌜ r ≡ valuesOf (deskSays (now (records .entry)) day house first second third) ⌝ }
 {
     desk::values(desk::ask_desk(records, day, house, first, second, third))
+}
+
+#[no_mangle]
+pub extern "C" fn hukolearu_smallest(
+    file: &[u32],
+    limit: u32,
+    budget: u32,
+    proof: &mut [u32],
+    answer: &mut [u32],
+    work: &mut [u32],
+) -> Least
+    ensures { λ r. ⌜ r .bound ≡ smallestCall (searchWith (now (file .entry)) limit budget (now (proof .entry)) (now (answer .entry)) (now (work .entry))) .bound ⌝ }
+    ensures { λ r. ⌜ r .outcome ≡ smallestCall (searchWith (now (file .entry)) limit budget (now (proof .entry)) (now (answer .entry)) (now (work .entry))) .given .outcome ⌝ }
+    ensures { λ _. ⌜ now (proof .exit) ≡ atFront (smallestCall (searchWith (now (file .entry)) limit budget (now (proof .entry)) (now (answer .entry)) (now (work .entry))) .given .proof) (now (proof .entry)) ⌝ }
+    ensures { λ _. ⌜ now (answer .exit) ≡ atFront (smallestCall (searchWith (now (file .entry)) limit budget (now (proof .entry)) (now (answer .entry)) (now (work .entry))) .given .answer) (now (answer .entry)) ⌝ }
+    ensures { λ _. ⌜ now (work .exit) ≡ workAfter (now (work .entry)) ⌝ }
+{
+    smallest::smallest(file, limit, budget, proof, answer, work)
 }

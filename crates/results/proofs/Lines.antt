@@ -11,7 +11,7 @@ use Rattle.text.specs.Digits.{decimalText, wordsText}
 use Rattle.text.proofs.Putting.{then}
 use Rattle.hukolearu.specs.declared.Outcome.{Outcome}
 use Rattle.results.specs.Buffers.{bothUntouched, kept}
-use Rattle.results.specs.Results.{barredText, verdictText, firstNumbersText, lastNumbersText, listsText, outcomeText, foundText, clauseText, countedText, slimmedText, slotsText, deskText}
+use Rattle.results.specs.Results.{barredText, verdictText, firstNumbersText, lastNumbersText, listsText, outcomeText, leastText, foundText, clauseText, countedText, slimmedText, slotsText, deskText}
 
 module _ {out a : List ℕ} {at n : ℕ} where
   pub barred-is : (ws : List ℕ) → Put out at (bytes " / ") a n → {b : List ℕ} {m : ℕ} → Put a n (wordsText ws) b m → Put out at (barredText ws) b m
@@ -48,6 +48,13 @@ module _ {out a : List ℕ} {at n : ℕ} where
       → {c : List ℕ} {k : ℕ} → Put b m (listsText front-steps front-words intact) c k → Put out at (outcomeText o steps proof answer work) c k
   unfolding outcomeText
   outcome-is o steps proof answer work p q ew fs fw rs rw′ ei r = then (then p q) (rw (ei, fs, fw, rs, rw′, ew) at r)
+
+  pub least-is : (bound : ℕ) (o : Outcome) (steps : ℕ) (proof answer work : List ℕ) → Put out at (bytes "bound " ++ decimalText bound) a n
+      → {b : List ℕ} {m : ℕ} → Put a n (bytes " ") b m → {c : List ℕ} {k : ℕ} → Put b m (outcomeText o steps proof answer work) c k
+      → Put out at (leastText bound o steps proof answer work) c k
+  unfolding leastText
+  least-is bound o steps proof answer work p q r =
+      then {a = bytes "bound " ++ decimalText bound ++ bytes " "} (then {a = bytes "bound " ++ decimalText bound} p q) r
 
   pub found-is : (s : ℕ) (ws : List ℕ) → Put out at (bytes "start " ++ decimalText s) a n
       → {l : ℕ} → l ≡ min (length ws) 4294967295 → {b : List ℕ} {m : ℕ} → Put a n (bytes " length " ++ decimalText l) b m
@@ -99,4 +106,4 @@ module _ {out a : List ℕ} {at n : ℕ} where
   desk-is status matinee evening either p q r =
       then {a = bytes "status " ++ decimalText status ++ slotsText matinee evening either} (then {a = bytes "status " ++ decimalText status} p q) r
 
-pub ruleset line-laws = (counted-is, slimmed-is, slots-are, desk-is, barred-is, verdict-good, verdict-bad, lists-are, first-are, last-are, outcome-is, found-is, clause-none, clause-some)
+pub ruleset line-laws = (counted-is, slimmed-is, slots-are, desk-is, barred-is, verdict-good, verdict-bad, lists-are, first-are, last-are, outcome-is, least-is, found-is, clause-none, clause-some)

@@ -39,6 +39,11 @@ outcomeText o steps proof answer work =
     firstNumbersText o ++ lastNumbersText o
     ++ listsText (take steps proof) (take (o .answer) answer) (kept (o .status) (drop steps proof) (drop (o .answer) answer) work)
 
+-- the bound before it
+unfoldable pub leastText : ℕ → Outcome → ℕ → List ℕ → List ℕ → List ℕ → List ℕ
+leastText bound o steps proof answer work =
+    bytes "bound " ++ decimalText bound ++ bytes " " ++ outcomeText o steps proof answer work
+
 -- a clause that was looked up; of no words where the file or the number is refused
 unfoldable pub foundText : ℕ → List ℕ → List ℕ
 foundText start ws =

@@ -2,6 +2,7 @@
 pub mod buffers;
 pub mod clause;
 pub mod desk;
+pub mod least;
 pub mod line;
 pub mod outcome;
 pub mod slimmed;

@@ -5,6 +5,7 @@ mod buffers;
 mod desk;
 mod line;
 mod slim;
+mod smallest;
 
 use engine::Report;
 use line::Line;
@@ -73,6 +74,7 @@ fn perform(engine: &mut impl Engine, line: &Line) -> Option<String> {
         "check" => base::check(engine, line),
         "desk" => desk::respond(line),
         "slim" => slim::respond(line),
+        "smallest" => smallest::respond(engine, line),
         _ => None,
     }
 }

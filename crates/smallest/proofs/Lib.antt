@@ -1,0 +1,5 @@
+pub mod Bounds
+pub mod AtTheDoor
+pub mod Trials
+pub mod Demands
+pub mod Cases

@@ -1,0 +1,4 @@
+pub mod Smallest
+pub mod SmallestDemands
+pub mod SmallestCases
+pub mod Trying
