@@ -58,5 +58,12 @@ int main(void)
     wrong |= says("smallest bound: 2, after 0 + 4 + 3 tries",
                   least.bound == 2 && least.outcome.status == HUKOLEARU_FOUND && least.outcome.tries == 7 && same(proof, steps, 2)
                       && same(answer, words, 6));
+
+    static const uint8_t text[] = "cnf(bill,axiom,(at(e,mat) | at(e,eve))). % a playbill\ncnf(asked,negated_conjecture,~ at(e,X)).";
+    static uint32_t read[15];
+    struct hukolearu_text_read said = hukolearu_read(text, sizeof text - 1, read, 15);
+    struct hukolearu_outcome asked = hukolearu_search(read, said.words, 2, 3, proof, 199, answer, 64, work, 16384);
+    wrong |= says("clause text: read into a file, whose question is answered",
+                  said.status == HUKOLEARU_FOUND && said.words == 15 && asked.status == HUKOLEARU_FOUND && asked.disjuncts == 2);
     return wrong;
 }

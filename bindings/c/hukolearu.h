@@ -43,6 +43,9 @@ enum hukolearu_status {
     HUKOLEARU_NOT_UNIFIED = 14,
     HUKOLEARU_LEAVES_OPEN = 15,
     HUKOLEARU_ANSWER_TOO_LONG = 16,
+    HUKOLEARU_TEXT = 17,
+    HUKOLEARU_QUESTIONS = 18,
+    HUKOLEARU_OVER_A_LIMIT = 19,
     HUKOLEARU_OUT_OF_RANGE = 24
 };
 
@@ -92,5 +95,16 @@ struct hukolearu_least {
 struct hukolearu_least hukolearu_smallest(const uint32_t *file, size_t file_words, uint32_t limit, uint32_t budget,
                                           uint32_t *proof, size_t proof_words, uint32_t *answer, size_t answer_words,
                                           uint32_t *work, size_t work_words);
+
+/* Order 1: a question file from TPTP clause text (roles axiom, hypothesis and negated_conjecture). On 0 the file stands at the front of the
+ * buffer, later words unchanged; a refusal leaves it unchanged: 17 with the place of the first byte that is wrong (65,536 for a longer
+ * text), 18 not exactly one question, 19 over a limit or over the buffer, 9 a positive literal in the question. Stack: under 1 MiB more. */
+struct hukolearu_text_read {
+    uint32_t status;
+    uint32_t place;
+    uint32_t words; /* of the file */
+};
+
+struct hukolearu_text_read hukolearu_read(const uint8_t *text, size_t text_bytes, uint32_t *file, size_t file_words);
 
 #endif

@@ -41,11 +41,20 @@ pub struct Least {
     pub outcome: Outcome,
 }
 
+/// A file read from clause text (order 1), and its words.
+#[repr(C)]
+#[derive(Clone, Copy, Debug, PartialEq, Eq)]
+pub struct TextRead {
+    pub status: u32,
+    pub place: u32,
+    pub words: u32,
+}
+
 pub const WORK_WORDS: usize = 16_384;
 pub const PROOF_WORDS: usize = 199;
 
 mod archive {
-    use super::{Desk, Least, Outcome, Slimmed};
+    use super::{Desk, Least, Outcome, Slimmed, TextRead};
 
     extern "C" {
         #[allow(clippy::too_many_arguments)]
@@ -68,6 +77,7 @@ mod archive {
             file: *const u32, file_words: usize, limit: u32, budget: u32, proof: *mut u32, proof_words: usize,
             answer: *mut u32, answer_words: usize, work: *mut u32, work_words: usize,
         ) -> Least;
+        pub fn hukolearu_read(text: *const u8, text_bytes: usize, file: *mut u32, file_words: usize) -> TextRead;
     }
 }
 
@@ -120,6 +130,12 @@ pub fn smallest(file: &[u32], limit: u32, budget: u32, proof: &mut [u32], answer
             answer.as_mut_ptr(), answer.len(), work.as_mut_ptr(), work.len(),
         )
     }
+}
+
+/// Reads TPTP clause text into a question file.
+pub fn read(text: &[u8], file: &mut [u32]) -> TextRead {
+    // SAFETY: as for `search`.
+    unsafe { archive::hukolearu_read(text.as_ptr(), text.len(), file.as_mut_ptr(), file.len()) }
 }
 
 #[cfg(test)]
@@ -177,6 +193,19 @@ mod tests {
         assert_eq!(smallest(&CASE_1, 32, 7, &mut proof, &mut answer, &mut work), Least { bound: 2, outcome: found });
         let out = Outcome { status: 11, place: 0, proof: 0, disjuncts: 0, answer: 0, tries: 6 };
         assert_eq!(smallest(&CASE_1, 32, 6, &mut proof, &mut answer, &mut work), Least { bound: 0, outcome: out });
+    }
+
+    #[test]
+    fn clause_text_is_read_or_its_first_wrong_byte_told() {
+        let mut file = [9; 16];
+        let text = b"cnf(bill,axiom,(at(e,mat) | at(e,eve))).\r\ncnf(asked,negated_conjecture,~ at(e,X)).";
+        assert_eq!(read(text, &mut file), TextRead { status: 0, place: 0, words: 15 });
+        let mut proof = [0; PROOF_WORDS];
+        let found = search(&file[..15], 2, 3, &mut proof, &mut [0; 6], &mut vec![0; WORK_WORDS]);
+        assert_eq!((found.status, found.disjuncts, file[15]), (0, 2, 9));
+        assert_eq!(read(b"cnf(a,axiomx", &mut file), TextRead { status: 17, place: 11, words: 0 });
+        assert_eq!(read(b"% no question", &mut file), TextRead { status: 18, place: 0, words: 0 });
+        assert_eq!(read(text, &mut file[..14]), TextRead { status: 19, place: 0, words: 0 });
     }
 
     #[test]

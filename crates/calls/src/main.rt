@@ -7,6 +7,7 @@ use hukolearu::Outcome;
 use hukolearu::calls;
 use libc::STDIN_FILENO;
 use libc::STDOUT_FILENO;
+use requests::bytes;
 use requests::piece;
 use requests::records;
 use requests::request;
@@ -15,6 +16,7 @@ use results::desk as said;
 use results::least;
 use results::outcome;
 use results::slimmed;
+use results::textual;
 use text::part;
 use text::put;
 use words::fields::wide;
@@ -34,6 +36,8 @@ const NUMBERS: u32 = 600;
 
 const RECORDS: u32 = 600;
 
+const TEXT: u32 = 131072;
+
 fn least(a: usize, b: usize) -> usize
     ensures { λ r. ⌜ r ≡ min a b ⌝ }
 {
@@ -48,10 +52,10 @@ fn write_line(out: &[u8], n: usize) {
 }
 
 // Room for the longest line, read or written.
-fn line_buffer() -> [u8; 190000]
-    ensures { λ r. ⌜ 190000 ≡ length r ⌝ }
+fn line_buffer() -> [u8; 270000]
+    ensures { λ r. ⌜ 270000 ≡ length r ⌝ }
 {
-    [0; 190000]
+    [0; 270000]
 }
 
 fn report(o: Outcome, steps: usize, proof: &[u32], answer: &[u32], work: &[u32]) {
@@ -285,6 +289,32 @@ fn answer_desk(line: &[u8], values: &[usize]) {
     write_line(&out, m);
 }
 
+fn text_buffer() -> [u8; 131072]
+    ensures { λ r. ⌜ 131072 ≡ length r ⌝ }
+{
+    [0; 131072]
+}
+
+fn read_text(text: &[u8], file: &mut [u32]) {
+    let r = tptp::call::read(text, file);
+    let mut out = line_buffer();
+    let n = textual::read_text(&mut out, 0, r.status, r.place, r.words, file);
+    write_line(&out, n);
+}
+
+// Lends the words for the file that are asked for.
+fn lend_file(text: &[u8], words: usize) {
+    let mut file = long_buffer();
+    let w = least(words, 20000);
+    read_text(text, &mut file[..w]);
+}
+
+fn answer_text(line: &[u8], values: &[usize]) {
+    let mut space = text_buffer();
+    let n = bytes::gather(line, request::place(values, 1), &mut space);
+    lend_file(part::front_bytes(&space, n), request::place(values, 0));
+}
+
 // Room for the values of the longest row.
 fn value_buffer() -> [usize; 8]
     ensures { λ r. ⌜ 8 ≡ length r ⌝ }
@@ -340,6 +370,10 @@ fn answer_request(line: &[u8]) {
         &mut values,
     ) {
         answer_desk(line, &values);
+        return;
+    }
+    if request::asks(line, b"tptp-in", b"nb", &[FILE, TEXT], &mut values) {
+        answer_text(line, &values);
         return;
     }
     io::write_all(STDOUT_FILENO, b"error\n");

@@ -4,6 +4,7 @@ use hukolearu::Outcome;
 use hukolearu::calls;
 use slim::Slimmed;
 use smallest::Least;
+use tptp::TextRead;
 ghost use mathlib.Core.Path.{_≡_};
 ghost use lib.ListN.{length};
 ghost use Rattle.hukolearu.specs.Door.{workAfter};
@@ -11,6 +12,7 @@ ghost use Rattle.hukolearu.specs.Calls.{searchCall, searchWith, checkCall, chec
 ghost use Rattle.slim.specs.Call.{slimCall};
 ghost use Rattle.desk.specs.Desk.{deskSays, valuesOf};
 ghost use Rattle.smallest.specs.Smallest.{smallestCall};
+ghost use Rattle.tptp.specs.Reads.{Reads};
 
 #[no_mangle]
 pub extern "C" fn hukolearu_search(
@@ -83,4 +85,11 @@ pub extern "C" fn hukolearu_smallest(
     ensures { λ _. ⌜ now (work .exit) ≡ workAfter (now (work .entry)) ⌝ }
 {
     smallest::smallest(file, limit, budget, proof, answer, work)
+}
+
+#[no_mangle]
+pub extern "C" fn hukolearu_read(text: &[u8], file: &mut [u32]) -> TextRead
+    ensures { λ r. ⌜ Reads (now (text .entry)) (now (file .entry)) r (now (file .exit)) ⌝ }
+{
+    tptp::call::read(text, file)
 }

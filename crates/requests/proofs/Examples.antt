@@ -7,12 +7,13 @@ use Prim.Native.String.{String}
 use lib.ListN.{drop}
 use Rattle.text.specs.Quoted.{bytes}
 use Rattle.requests.specs.Pieces.{upTo, pieces, piecesAt, digitOf, valueFrom, numberOf, numberAt, wordOf, sameBytes, leading, runFrom}
+use Rattle.requests.specs.Bytes.{pairOf, bytesOf}
 use Rattle.requests.specs.Records.{slotOf, recordOf, recordWords}
 use Rattle.requests.specs.Rows as Rows
-use Rattle.requests.specs.Rows.{runAt, listAt, barredAt, fieldAt, endsWith, valuesFrom, asks, valuesAsked}
+use Rattle.requests.specs.Rows.{runAt, bytesAt, listAt, barredAt, fieldAt, endsWith, valuesFrom, asks, valuesAsked}
 
 unfoldable opened : Unit {0}
-unfolding upTo pieces piecesAt digitOf valueFrom numberOf numberAt wordOf sameBytes leading runFrom slotOf recordOf recordWords Rows.numberAt runAt listAt barredAt fieldAt endsWith valuesFrom asks valuesAsked
+unfolding upTo pieces piecesAt digitOf valueFrom numberOf numberAt wordOf sameBytes leading runFrom slotOf recordOf recordWords pairOf bytesOf Rows.numberAt runAt bytesAt listAt barredAt fieldAt endsWith valuesFrom asks valuesAsked
 opened = tt
 
 abbrev pub lookup : String → Bool
@@ -113,3 +114,39 @@ record-without-day = refl
 pub hexadecimal-house : desk "desk 0 / 1:A:m" ≡ false
 unfolding opened
 hexadecimal-house = refl
+
+-- bytes run together
+abbrev pub text : String → Bool
+text line = asks (bytes line) (bytes "t") (bytes "nb") (16100 ∷ 3 ∷ [])
+
+pub text-values : valuesAsked (bytes "t 9 / 0aFf41") (bytes "t") (bytes "nb") (16100 ∷ 3 ∷ []) ≡ 9 ∷ 6 ∷ []
+unfolding opened
+text-values = refl
+
+pub text-read : text "t 9 / 0aFf41" ≡ true
+unfolding opened
+text-read = refl
+
+pub text-bytes : bytesOf (drop 6 (bytes "t 9 / 0aFf41")) ≡ 10 ∷ 255 ∷ 65 ∷ []
+unfolding opened
+text-bytes = refl
+
+pub no-text : text "t 9 / -" ≡ true
+unfolding opened
+no-text = refl
+
+pub odd-digits : text "t 9 / ABC" ≡ false
+unfolding opened
+odd-digits = refl
+
+pub no-digit : text "t 9 / 000G" ≡ false
+unfolding opened
+no-digit = refl
+
+pub bytes-apart : text "t 9 / 00 00" ≡ false
+unfolding opened
+bytes-apart = refl
+
+pub four-bytes : text "t 9 / 00000000" ≡ false
+unfolding opened
+four-bytes = refl

@@ -2,7 +2,7 @@
 use mathlib.Core.Path.{_≡_, refl, sym, ap, _∙_}
 use mathlib.Core.Bool.{Bool, true, false, cond, _&&_}
 use mathlib.Core.List.{List, [], _∷_}
-use Prim.Native.Nat.{ℕ, zero, suc, _+_, _^_, _≤_, _<_}
+use Prim.Native.Nat.{ℕ, zero, suc, _+_, _-_, _*_, _^_, _≤_, _<_}
 use Prim.Native.Char.{code}
 use native.Mathlib.Omega.{arith}
 use lib.Dec.{eqb, leb, ltb}
@@ -16,7 +16,8 @@ use Rattle.text.specs.Put.{put, Put}
 use Rattle.text.proofs.Putting.{Left, begin, further as write-on, finish}
 use Rattle.text.proofs.Written.{from-place}
 use Rattle.requests.specs.Pieces.{pieceAt, piecesAt, decimalAt, sameBytes, runFrom}
-use Rattle.requests.specs.Rows.{upTo, numberAt, counted, runAt, wordsAt, recordsAt, listAt, barredAt, fieldAt, further, endsWith, valueAnd, valuesFrom, asks, valuesAsked}
+use Rattle.requests.specs.Bytes.{bytesOf}
+use Rattle.requests.specs.Rows.{upTo, numberAt, counted, runAt, wordsAt, recordsAt, wholly, bytesAt, listAt, barredAt, fieldAt, further, endsWith, valueAnd, valuesFrom, asks, valuesAsked}
 use Rattle.requests.specs.declared.piece.Number.{Number}
 use Rattle.requests.specs.declared.piece.Number.the-variants.{Value, Bad}
 use Rattle.requests.specs.declared.piece.Run.{Run}
@@ -71,6 +72,36 @@ module _ (kind : List ℕ → Bool) (room : ℕ) (line : List ℕ) (at : ℕ) {q
   unfolding runAt
   list-some t er ep = rw (sym e ∙ t, ← er) ep
 
+-- bytes
+module _ (room : ℕ) (line : List ℕ) (at : ℕ) {q : Bool} (e : q ≡ sameBytes (pieceAt line at) (bytes "-")) where
+  pub bytes-none : q ≡ true → Said at (at + 2) ≡ bytesAt room line at
+  unfolding bytesAt
+  bytes-none t = rw (sym e ∙ t)
+
+  module _ (t : q ≡ false) {count : ℕ} (ec : count ≡ length (bytesOf (drop at line))) where
+    is-wholly : bytesAt room line at ≡ wholly room at (length (pieceAt line at)) count
+    unfolding bytesAt
+    is-wholly = rw (sym e ∙ t, ec)
+
+    pub no-bytes : count ≡ 0 → Missing ≡ bytesAt room line at
+    no-bytes z = sym (is-wholly ∙ rw (eq-eqb count 0 z))
+
+    module _ (n : count ≡ 0 → ⊥) {end : ℕ} (ee : end ≡ at + length (pieceAt line at)) where
+      long : end - at ≡ length (pieceAt line at)
+      long = omega arith
+
+      pub more-than-bytes : (end - at ≡ count * 2 → ⊥) → Missing ≡ bytesAt room line at
+      more-than-bytes d = sym (is-wholly ∙ rw (ne-eqb count 0 n, ← long, ne-eqb (end - at) (count * 2) d))
+
+      module _ (d : end - at ≡ count * 2) where
+        pub too-many-bytes : room < count → Missing ≡ bytesAt room line at
+        too-many-bytes h = sym (is-wholly ∙ rw (ne-eqb count 0 n, ← long, eq-eqb (end - at) (count * 2) d, lt-ltb room count h))
+
+        pub bytes-read : count ≤ room → Said at (end + 1) ≡ bytesAt room line at
+        bytes-read h = rw ee (sym (is-wholly ∙ rw (ne-eqb count 0 n, eq-eqb (length (pieceAt line at)) (count * 2) (sym long ∙ d), le-ltb room count h)))
+
+pub ruleset bytes-laws = (bytes-none, no-bytes, more-than-bytes, too-many-bytes, bytes-read)
+
 -- a list by its letter, after a bar
 module _ (line : List ℕ) (at letter room : ℕ) where
   pub list-words : letter ≡ 119 → {p : Read} → p ≡ wordsAt room line at → p ≡ listAt line at letter room
@@ -82,9 +113,14 @@ module _ (line : List ℕ) (at letter room : ℕ) where
     unfolding listAt
     list-records e ep = rw (ne-eqb letter 119 n, eq-eqb letter 114 e) ep
 
-    pub list-unknown : (letter ≡ 114 → ⊥) → Missing ≡ listAt line at letter room
-    unfolding listAt
-    list-unknown m = rw (ne-eqb letter 119 n, ne-eqb letter 114 m)
+    module _ (m : letter ≡ 114 → ⊥) where
+      pub list-bytes : letter ≡ 98 → {p : Read} → p ≡ bytesAt room line at → p ≡ listAt line at letter room
+      unfolding listAt
+      list-bytes e ep = rw (ne-eqb letter 119 n, ne-eqb letter 114 m, eq-eqb letter 98 e) ep
+
+      pub list-unknown : (letter ≡ 98 → ⊥) → Missing ≡ listAt line at letter room
+      unfolding listAt
+      list-unknown b = rw (ne-eqb letter 119 n, ne-eqb letter 114 m, ne-eqb letter 98 b)
 
   module _ {q : Bool} (e : q ≡ sameBytes (pieceAt line at) (bytes "/")) where
     pub list-barred : q ≡ true → {p : Read} → p ≡ listAt line (at + 2) letter room → p ≡ barredAt line at letter room
@@ -95,7 +131,7 @@ module _ (line : List ℕ) (at letter room : ℕ) where
     unfolding barredAt
     no-bar t = rw (sym e ∙ t)
 
-pub ruleset list-laws = (mark-fits, list-none, list-some, list-words, list-records, list-unknown, list-barred, no-bar)
+pub ruleset list-laws = (mark-fits, list-none, list-some, list-words, list-records, list-bytes, list-unknown, list-barred, no-bar)
 
 -- a field by its letter
 module _ (line : List ℕ) (at letter most : ℕ) where

@@ -1,3 +1,4 @@
+pub mod Bytes
 pub mod Pieces
 pub mod Reading
 pub mod Records

@@ -2,13 +2,14 @@
 -- A row is told by a letter for each field and by the most that each may be: a number's limit, a list's length.
 use mathlib.Core.Bool.{Bool, true, false, cond, _&&_}
 use mathlib.Core.List.{List, [], _∷_}
-use Prim.Native.Nat.{ℕ, _+_}
+use Prim.Native.Nat.{ℕ, _+_, _*_}
 use lib.Dec.{eqb, leb, ltb}
 use Prim.Native.Char.{code}
 use lib.ListN.{length, drop, getD}
 use Rattle.text.specs.Quoted.{bytes}
 use Rattle.requests.specs.Pieces.{pieceAt, piecesAt, decimalAt, sameBytes, isWord, runFrom}
 use Rattle.requests.specs.Records.{isRecord}
+use Rattle.requests.specs.Bytes.{bytesOf}
 use Rattle.requests.specs.declared.piece.Number.{Number}
 use Rattle.requests.specs.declared.piece.Number.the-variants.{Value, Bad}
 use Rattle.requests.specs.declared.piece.Run.{Run}
@@ -37,10 +38,19 @@ wordsAt room line at = runAt isWord room line at
 abbrev pub recordsAt : ℕ → List ℕ → ℕ → Read
 recordsAt room line at = runAt isRecord room line at
 
--- a list by its letter: `w`, words; `r`, records
+-- bytes: `-` stands for none; else the piece is one or more, up to so many, and nothing else
+abbrev pub wholly : ℕ → ℕ → ℕ → ℕ → Read
+wholly room at long count =
+    cond (eqb count 0) Missing (cond (eqb long (count * 2)) (cond (ltb room count) Missing (Said at (at + long + 1))) Missing)
+
+unfoldable pub bytesAt : ℕ → List ℕ → ℕ → Read
+bytesAt room line at =
+    cond (sameBytes (pieceAt line at) (bytes "-")) (Said at (at + 2)) (wholly room at (length (pieceAt line at)) (length (bytesOf (drop at line))))
+
+-- a list by its letter: `w`, words; `r`, records; `b`, bytes
 unfoldable pub listAt : List ℕ → ℕ → ℕ → ℕ → Read
 listAt line at letter room =
-    cond (eqb letter (code "w")) (wordsAt room line at) (cond (eqb letter (code "r")) (recordsAt room line at) Missing)
+    cond (eqb letter (code "w")) (wordsAt room line at) (cond (eqb letter (code "r")) (recordsAt room line at) (cond (eqb letter (code "b")) (bytesAt room line at) Missing))
 
 -- a list comes after a bar
 unfoldable pub barredAt : List ℕ → ℕ → ℕ → ℕ → Read

@@ -20,7 +20,7 @@ pub struct Run {
 }
 
 // What a digit stands for; 16: no digit.
-fn digit(c: u8) -> u64
+pub fn digit(c: u8) -> u64
     ensures { λ r. ⌜ r ≡ digitOf c ⌝ }
 {
     if c < b'0' {

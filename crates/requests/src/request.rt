@@ -1,10 +1,11 @@
 // A request of the line protocol: a verb, and the fields of its row. A row is told by a letter for each field, `n` for a number,
-// `w` for a list of words and `r` for one of records, and by the most that each may be: a number's limit, a list's length.
+// `w` for a list of words, `r` for one of records and `b` for one of bytes, and by the most that each may be: a number's limit, a list's length.
 ghost use mathlib.Core.Path.{_≡_};
 ghost use Prim.Native.Nat.{min};
 ghost use lib.ListN.{getD};
 ghost use Rattle.text.specs.Put.{put};
-ghost use Rattle.requests.specs.Rows.{numberAt, counted, wordsAt, recordsAt, listAt, barredAt, fieldAt, endsWith, valuesFrom, asks, valuesAsked};
+ghost use Rattle.requests.specs.Rows.{numberAt, counted, wordsAt, recordsAt, bytesAt, listAt, barredAt, fieldAt, endsWith, valuesFrom, asks, valuesAsked};
+use crate::bytes;
 use crate::piece;
 use crate::piece::Number;
 use crate::piece::Run;
@@ -63,6 +64,27 @@ fn records(line: &[u8], at: usize, room: usize) -> Value
     counted(at, room, records::records(line, at))
 }
 
+// The piece is nothing but bytes.
+fn bytes(line: &[u8], at: usize, room: usize) -> Value
+    ensures { λ r. ⌜ r ≡ bytesAt room (now (line .entry)) at ⌝ }
+{
+    if piece::is(line, at, b"-") {
+        return Value::Said(at, at + 2);
+    }
+    let count = bytes::count(line, at);
+    if count == 0 {
+        return Value::Missing;
+    }
+    let end = piece::end_of(line, at, b' ');
+    if end - at != count * 2 {
+        return Value::Missing;
+    }
+    if room < count {
+        return Value::Missing;
+    }
+    Value::Said(at, end + 1)
+}
+
 fn list(line: &[u8], at: usize, letter: u8, room: usize) -> Value
     ensures { λ r. ⌜ r ≡ listAt (now (line .entry)) at letter room ⌝ }
 {
@@ -71,6 +93,9 @@ fn list(line: &[u8], at: usize, letter: u8, room: usize) -> Value
     }
     if letter == b'r' {
         return records(line, at, room);
+    }
+    if letter == b'b' {
+        return bytes(line, at, room);
     }
     Value::Missing
 }

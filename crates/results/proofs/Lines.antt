@@ -10,8 +10,8 @@ use Rattle.text.specs.Put.{Put}
 use Rattle.text.specs.Digits.{decimalText, wordsText}
 use Rattle.text.proofs.Putting.{then}
 use Rattle.hukolearu.specs.declared.Outcome.{Outcome}
-use Rattle.results.specs.Buffers.{bothUntouched, kept}
-use Rattle.results.specs.Results.{barredText, verdictText, firstNumbersText, lastNumbersText, listsText, outcomeText, leastText, foundText, clauseText, countedText, slimmedText, slotsText, deskText}
+use Rattle.results.specs.Buffers.{allAre, bothUntouched, kept}
+use Rattle.results.specs.Results.{barredText, verdictText, firstNumbersText, lastNumbersText, listsText, outcomeText, leastText, foundText, clauseText, countedText, slimmedText, slotsText, deskText, readText}
 
 module _ {out a : List ℕ} {at n : ℕ} where
   pub barred-is : (ws : List ℕ) → Put out at (bytes " / ") a n → {b : List ℕ} {m : ℕ} → Put a n (wordsText ws) b m → Put out at (barredText ws) b m
@@ -106,4 +106,11 @@ module _ {out a : List ℕ} {at n : ℕ} where
   desk-is status matinee evening either p q r =
       then {a = bytes "status " ++ decimalText status ++ slotsText matinee evening either} (then {a = bytes "status " ++ decimalText status} p q) r
 
-pub ruleset line-laws = (counted-is, slimmed-is, slots-are, desk-is, barred-is, verdict-good, verdict-bad, lists-are, first-are, last-are, outcome-is, least-is, found-is, clause-none, clause-some)
+  pub read-is : (status place words : ℕ) (file : List ℕ) → Put out at (countedText status place (bytes " words ") words) a n → {long : ℕ} → long ≡ words
+      → {front rest : List ℕ} → front ≡ take long file → rest ≡ drop long file → {intact : Bool} → intact ≡ allAre 0xA5A5A5A5 rest
+      → {b : List ℕ} {m : ℕ} → Put a n (barredText front) b m → {c : List ℕ} {k : ℕ} → Put b m (verdictText intact) c k
+      → Put out at (readText status place words file) c k
+  unfolding readText
+  read-is status place words file p el ff fr ei q r = then (then p (rw (ff, el) at q)) (rw (ei, fr, el) at r)
+
+pub ruleset line-laws = (counted-is, slimmed-is, read-is, slots-are, desk-is, barred-is, verdict-good, verdict-bad, lists-are, first-are, last-are, outcome-is, least-is, found-is, clause-none, clause-some)

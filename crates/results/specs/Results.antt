@@ -6,7 +6,7 @@ use lib.ListN.{length, take, drop}
 use Rattle.text.specs.Quoted.{bytes}
 use Rattle.text.specs.Digits.{decimalText, wordsText}
 use Rattle.hukolearu.specs.declared.Outcome.{Outcome}
-use Rattle.results.specs.Buffers.{bothUntouched, kept}
+use Rattle.results.specs.Buffers.{allAre, bothUntouched, kept}
 
 -- a list after a bar
 unfoldable pub barredText : List ℕ → List ℕ
@@ -66,3 +66,8 @@ slotsText matinee evening either =
 
 unfoldable pub deskText : ℕ → ℕ → ℕ → ℕ → List ℕ
 deskText status matinee evening either = bytes "status " ++ decimalText status ++ slotsText matinee evening either ++ bytes "\n"
+
+-- a file read from a text: three numbers, and the words at the front of the file's buffer
+unfoldable pub readText : ℕ → ℕ → ℕ → List ℕ → List ℕ
+readText status place words file =
+    countedText status place (bytes " words ") words ++ barredText (take words file) ++ verdictText (allAre 0xA5A5A5A5 (drop words file))

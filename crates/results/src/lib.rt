@@ -6,3 +6,4 @@ pub mod least;
 pub mod line;
 pub mod outcome;
 pub mod slimmed;
+pub mod textual;

@@ -6,6 +6,7 @@ mod desk;
 mod line;
 mod slim;
 mod smallest;
+mod tptp;
 
 use engine::Report;
 use line::Line;
@@ -75,6 +76,7 @@ fn perform(engine: &mut impl Engine, line: &Line) -> Option<String> {
         "desk" => desk::respond(line),
         "slim" => slim::respond(line),
         "smallest" => smallest::respond(engine, line),
+        "tptp-in" => tptp::respond_in(line),
         _ => None,
     }
 }

@@ -5,6 +5,7 @@ pub const PROOF_ROOM: usize = 300;
 pub const ANSWER_ROOM: usize = 20_000;
 pub const OFFERED_ROOM: usize = 1_024;
 pub const FILE_ROOM: usize = 16_100;
+pub const TEXT_ROOM: usize = 131_072;
 
 pub struct Line<'a> {
     pub verb: &'a str,
@@ -43,4 +44,15 @@ pub fn words(list: &str, room: usize) -> Option<Vec<u32>> {
     }
     let words: Vec<u32> = list.split(' ').map(hexadecimal).collect::<Option<_>>()?;
     (words.len() <= room).then_some(words)
+}
+
+/// Two digits each, run together.
+pub fn bytes(list: &str) -> Option<Vec<u8>> {
+    if list == "-" {
+        return Some(Vec::new());
+    }
+    let digits = list.as_bytes();
+    let two = |pair: &[u8]| u8::try_from(hexadecimal(str::from_utf8(pair).ok()?)?).ok();
+    let even = !digits.is_empty() && digits.len() % 2 == 0 && digits.len() / 2 <= TEXT_ROOM;
+    if even { digits.chunks(2).map(two).collect() } else { None }
 }

@@ -2,3 +2,4 @@
 
 pub mod desk;
 pub mod slim;
+pub mod tptp;

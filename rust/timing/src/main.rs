@@ -1,9 +1,10 @@
 //! The proved engine, its own text compiled by rustc, and the Rust engine of its design with and without bounds checks, side by side.
-//! `timing call SIDE QUESTION` makes one call, for counting its instructions; `timing questions` lists the questions;
+//! `timing texts` puts reading clause text beside Rust; `timing call SIDE QUESTION` makes one call, for counting its instructions; `timing questions` lists the questions;
 //! `timing export DIRECTORY` writes each question as input of document 01's program, for measuring other builds by the same.
 
 mod clock;
 mod sides;
+mod texts;
 mod workloads;
 
 use sides::{Lent, SIDES, Side};
@@ -18,10 +19,11 @@ fn main() -> std::io::Result<()> {
     let arguments: Vec<String> = std::env::args().skip(1).collect();
     match arguments.iter().map(String::as_str).collect::<Vec<_>>().as_slice() {
         [] => show_all(),
+        ["texts"] => texts::show(),
         ["questions"] => workloads::all().iter().for_each(|workload| println!("{}", workload.name)),
         ["call", side, question] => call_once(side, question),
         ["export", directory] => export(directory)?,
-        _ => eprintln!("usage: timing [questions | call SIDE QUESTION | export DIRECTORY]"),
+        _ => eprintln!("usage: timing [texts | questions | call SIDE QUESTION | export DIRECTORY]"),
     }
     Ok(())
 }

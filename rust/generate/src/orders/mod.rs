@@ -3,20 +3,21 @@
 mod desk;
 mod slim;
 mod smallest;
+mod tptp;
 
 use crate::lines::Spelling;
 use crate::random::Random;
 
 type Kind = fn(&mut Random, Spelling) -> String;
 
-const KINDS: &[Kind] = &[desk::request, slim::request, smallest::request];
+const KINDS: &[Kind] = &[desk::request, slim::request, smallest::request, tptp::request];
 
 pub fn any(random: &mut Random, spelling: Spelling) -> String {
     random.pick(KINDS)(random, spelling)
 }
 
 pub fn borders() -> Vec<String> {
-    [desk::borders(), slim::borders(), smallest::borders()].concat()
+    [desk::borders(), slim::borders(), smallest::borders(), tptp::borders()].concat()
 }
 
 /// A length at, just below or just above what is needed, or ample.

@@ -13,4 +13,6 @@ list-spec =
     (λ c. search all)
     (λ c κs. search all)
     (λ c. search all)
+    (λ c κs. search all)
+    (λ c. search all)
     (λ c. search all))

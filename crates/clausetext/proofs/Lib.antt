@@ -1,0 +1,13 @@
+pub mod Apart
+pub mod Following
+pub mod Steps
+pub mod Runs
+pub mod Judgement
+pub mod OneReading
+pub mod KindLaws
+pub mod Lexing
+pub mod Walking
+pub mod JudgeLaws
+pub mod JudgeLoop
+pub mod Promises
+pub mod Examples
