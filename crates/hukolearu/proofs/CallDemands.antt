@@ -12,6 +12,7 @@ use Rattle.words.specs.Steps.{stepOf, stepWord, wellFormed}
 use Rattle.words.specs.declared.Step.the-variants.{Reduction, Extension, Malformed}
 use Rattle.words.proofs.Roundtrip.{decode-encode}
 use Rattle.words.specs.declared.Step.{Step}
+use Rattle.table.specs.File.{tableIn}
 use Rattle.table.specs.Limits.{Within}
 use Rattle.table.specs.Syntax.{Table, allClauses}
 use Rattle.rules.specs.Setting.{Setting, base}
@@ -23,7 +24,7 @@ use Rattle.rules.specs.Verdict.{Refusal, malformed, not-allowed, not-unified, l
 use Rattle.rules.specs.Machinery.Play.{Play, Checking, passed, check, checked, searchFor, answerOf, disjunctsOf}
 use Rattle.rules.proofs.Checker.{accepted-closed, closed-accepted}
 use Rattle.rules.proofs.ClosedTableaux.{larger-bound, larger-table, step-numbers}
-use Rattle.rules.proofs.Demands.{passed-closed, closed-passed, accepted-has-answer, one-answer, one-ending, runs-out-exactly, tries-are-those-made, none-exactly, found-is-first, one-check-verdict, answers-hold, larger-budget, short-clauses}
+use Rattle.rules.proofs.Demands.{passed-closed, closed-passed, accepted-has-answer, one-answer, one-ending, runs-out-exactly, tries-are-those-made, none-exactly, found-is-first, one-check-verdict, answers-hold, larger-budget, short-clauses, not-enough}
 use Rattle.rules.proofs.Lengths.{InRange}
 use Rattle.rules.proofs.Lists.{All}
 use Rattle.rules.specs.Answer.{answerWords}
@@ -260,3 +261,8 @@ accepted-once-more a b ok ok′ grown l more same z =
 -- the door opens exactly where the call passes all checks of input
 pub admitted-exactly : Demands.AdmittedExactly
 admitted-exactly file inputs = (passed-all file inputs, admitted file inputs)
+
+-- what "none" says of evidence
+pub none-said-means : Demands.NoneSaidMeans
+none-said-means a ok z e =
+    not-enough (tableIn (a .file)) (a .bound) (none-said-exactly a ok (λ r. let w : _≡_ {A = ℕ} 10 11 = sym z ∙ r in absurd (omega arith)) .0 z) e

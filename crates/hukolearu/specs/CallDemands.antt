@@ -13,6 +13,7 @@ use Rattle.rules.specs.Setting.{Setting}
 use Rattle.rules.specs.Tableau.{start, Closed}
 use Rattle.rules.specs.Order.{Ending, Searched, First}
 use Rattle.rules.specs.Truth.{Interpretation, AllHold, TrueAnswer}
+use Rattle.rules.specs.Evidence.{Evidence, enough}
 use Rattle.rules.specs.Growing.{Larger, moved}
 use Rattle.hukolearu.specs.Status as Status
 use Rattle.hukolearu.specs.Door.{firstFault, checks, Admitted}
@@ -124,3 +125,10 @@ AcceptedOnceMore =
     → (grown : Larger (tableIn (a .file)) (tableIn (b .file))) → a .bound ≤ b .bound → a .answerRoom ≤ b .answerRoom
     → b .offered ≡ map (movedWord grown) (a .offered)
     → checkStatus a ≡ Status.done → checkCall b ≡ checkCall a
+
+-- COMPLETENESS
+-- "None" tells of every evidence for an answer that the bound was not enough for it. With `rules/Demands.AnswerCompleteness`: what has evidence for which
+-- the bound is enough is found, if the budget lasts.
+abbrev pub NoneSaidMeans : Type 0
+NoneSaidMeans =
+    (a : SearchAsked) → SearchAccepted a → searchStatus a ≡ Status.noneFound → (e : Evidence (tableIn (a .file))) → a .bound < enough e

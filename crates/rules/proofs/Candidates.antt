@@ -160,6 +160,10 @@ module _ (leaf : Literal Variable) (copy : ℕ) where
       ordered-append {xs = entries leaf n 0 (copyOf copy c)} (rw e (offered-ordered (Extension n) leaf (λ i j l. inr (refl, l)) 0 (copyOf copy c))) (extensions-ordered (suc n) cs)
       (rw e (all-members _ λ s i. let o : Offer (Extension n) leaf 0 (copyOf copy c) s = offered-is (Extension n) leaf 0 (copyOf copy c) i in rw (o .is) (extensions-after n (suc n) cs (omega arith) (0 + o .place))))
 
+-- the ancestors that a leaf may be reduced against
+abbrev reach : Leaf → List (Literal Variable)
+reach leaf = leaf .branch
+
 module _ (S : Setting) (x : Tableau) where
   -- a step that is taken is a candidate
   reduction-candidate :
@@ -169,8 +173,8 @@ module _ (S : Setting) (x : Tableau) where
   reduction-candidate leaf rest zero a f = absurd (none-some a)
   reduction-candidate leaf rest (suc h) a f =
       let k : 1 + h ≡ suc h = omega arith in
-      let i = offered-has Reduction (leaf .literal) 1 (leaf .branch) h a f in
-      let m : List·Memᴰ (Reduction (suc h)) (reductions (leaf .literal) 1 (leaf .branch)) = rw reductions-offered (rw k at i) in
+      let i = offered-has Reduction (leaf .literal) 1 (reach leaf) h a f in
+      let m : List·Memᴰ (Reduction (suc h)) (reductions (leaf .literal) 1 (reach leaf)) = rw reductions-offered (rw k at i) in
       Memᴰ·append-left _ m
 
   extension-candidate :
@@ -181,7 +185,7 @@ module _ (S : Setting) (x : Tableau) where
   extension-candidate leaf rest i j u c a f =
       let k : 0 + i ≡ i = omega arith in
       let m = extensions-have (leaf .literal) (suc (x .extensions)) 0 (allClauses (S .table)) i j c a f in
-      Memᴰ·append-right (reductions (leaf .literal) 1 (leaf .branch)) (rw (u .0, lt-ltb _ _ (u .1)) (rw k at m))
+      Memᴰ·append-right (reductions (leaf .literal) 1 (reach leaf)) (rw (u .0, lt-ltb _ _ (u .1)) (rw k at m))
 
   does-candidate : {s : Step} {y : Tableau} → Does S x s y → List·Memᴰ s (candidatesAt S (x .extensions) (x .leaves))
   does-candidate (reduces {leaf = leaf} {rest = rest} {height = height} l a f e) = rw l (reduction-candidate leaf rest height a f)
@@ -189,11 +193,11 @@ module _ (S : Setting) (x : Tableau) where
 
   -- a candidate can be taken
   reduction-taken :
-      (leaf : Leaf) (rest : List Leaf) {s : Step} → List·Memᴰ s (reductions (leaf .literal) 1 (leaf .branch))
+      (leaf : Leaf) (rest : List Leaf) {s : Step} → List·Memᴰ s (reductions (leaf .literal) 1 (reach leaf))
       → (y : Tableau) × (treated S x (leaf ∷ rest) s ≡ some y)
   unfolding treated ancestor reduced
   reduction-taken leaf rest {s} i =
-      let o : Offer Reduction (leaf .literal) 1 (leaf .branch) s = offered-is Reduction (leaf .literal) 1 (leaf .branch) (rw reductions-offered at i) in
+      let o : Offer Reduction (leaf .literal) 1 (reach leaf) s = offered-is Reduction (leaf .literal) 1 (reach leaf) (rw reductions-offered at i) in
       let k : 1 + o .place ≡ suc (o .place) = omega arith in
       rw (o .is, k, o .there, o .fitting) (_, refl)
 
@@ -211,7 +215,7 @@ module _ (S : Setting) (x : Tableau) where
   candidate-taken : (leaves : List Leaf) {s : Step} → List·Memᴰ s (candidatesAt S (x .extensions) leaves) → (y : Tableau) × (treated S x leaves s ≡ some y)
   unfolding candidatesAt
   candidate-taken [] i = absurd (List·Memᴰ·not-nil i)
-  candidate-taken (leaf ∷ rest) {s} i = go (List·Memᴰ·append-cases (reductions (leaf .literal) 1 (leaf .branch)) i)
+  candidate-taken (leaf ∷ rest) {s} i = go (List·Memᴰ·append-cases (reductions (leaf .literal) 1 (reach leaf)) i)
     where
       within : (b : Bool) → mayExtend S (x .extensions) leaf ≡ b
           → List·Memᴰ s (cond b (extensions (leaf .literal) (suc (x .extensions)) 0 (allClauses (S .table))) [])
@@ -219,31 +223,31 @@ module _ (S : Setting) (x : Tableau) where
       within true g j = extension-taken leaf rest g j
       within false g j = absurd (List·Memᴰ·not-nil j)
 
-      go : List·Memᴰ s (reductions (leaf .literal) 1 (leaf .branch)) ⊎ List·Memᴰ s (cond (mayExtend S (x .extensions) leaf) (extensions (leaf .literal) (suc (x .extensions)) 0 (allClauses (S .table))) [])
+      go : List·Memᴰ s (reductions (leaf .literal) 1 (reach leaf)) ⊎ List·Memᴰ s (cond (mayExtend S (x .extensions) leaf) (extensions (leaf .literal) (suc (x .extensions)) 0 (allClauses (S .table))) [])
           → (y : Tableau) × (treated S x (leaf ∷ rest) s ≡ some y)
       go (inl j) = reduction-taken leaf rest j
       go (inr j) = within (mayExtend S (x .extensions) leaf) refl j
 
   -- the candidates stand in the stated order, so none is there twice
-  reductions-first : (leaf : Leaf) (cs : List Clause) → All (λ s. All (Precedes s) (extensions (leaf .literal) (suc (x .extensions)) 0 cs)) (reductions (leaf .literal) 1 (leaf .branch))
+  reductions-first : (leaf : Leaf) (cs : List Clause) → All (λ s. All (Precedes s) (extensions (leaf .literal) (suc (x .extensions)) 0 cs)) (reductions (leaf .literal) 1 (reach leaf))
   unfolding Precedes
   reductions-first leaf cs =
       all-members _ λ s i.
-      let o : Offer Reduction (leaf .literal) 1 (leaf .branch) s = offered-is Reduction (leaf .literal) 1 (leaf .branch) (rw reductions-offered at i) in
+      let o : Offer Reduction (leaf .literal) 1 (reach leaf) s = offered-is Reduction (leaf .literal) 1 (reach leaf) (rw reductions-offered at i) in
       all-members _ λ r j.
       let q : Entry (leaf .literal) (suc (x .extensions)) 0 cs r = extensions-are (leaf .literal) (suc (x .extensions)) 0 cs j in
       rw (o .is, q .offer .is) tt
 
-  reductions-ordered : (leaf : Leaf) → Ordered Precedes (reductions (leaf .literal) 1 (leaf .branch))
+  reductions-ordered : (leaf : Leaf) → Ordered Precedes (reductions (leaf .literal) 1 (reach leaf))
   unfolding Precedes
-  reductions-ordered leaf = rw reductions-offered (offered-ordered Reduction (leaf .literal) (λ i j l. l) 1 (leaf .branch))
+  reductions-ordered leaf = rw reductions-offered (offered-ordered Reduction (leaf .literal) (λ i j l. l) 1 (reach leaf))
 
   candidates-ordered-at : (leaves : List Leaf) → Ordered Precedes (candidatesAt S (x .extensions) leaves)
   unfolding candidatesAt
   candidates-ordered-at [] = done
   candidates-ordered-at (leaf ∷ rest) = go (mayExtend S (x .extensions) leaf)
     where
-      go : (b : Bool) → Ordered Precedes (reductions (leaf .literal) 1 (leaf .branch) ++ cond b (extensions (leaf .literal) (suc (x .extensions)) 0 (allClauses (S .table))) [])
+      go : (b : Bool) → Ordered Precedes (reductions (leaf .literal) 1 (reach leaf) ++ cond b (extensions (leaf .literal) (suc (x .extensions)) 0 (allClauses (S .table))) [])
       go true = ordered-append (reductions-ordered leaf) (extensions-ordered (leaf .literal) (suc (x .extensions)) 0 (allClauses (S .table))) (reductions-first leaf (allClauses (S .table)))
       go false = ordered-append (reductions-ordered leaf) done (all-of (λ s. end) _)
 

@@ -12,14 +12,16 @@ use Rattle.words.specs.declared.Step.{Step}
 use Rattle.words.specs.declared.Step.the-variants.{Reduction, Extension, Malformed}
 use Rattle.words.proofs.Roundtrip.{decode-encoded}
 use Rattle.table.specs.Limits.{Each, ClauseWithin}
-use Rattle.table.specs.Syntax.{Clause, allClauses}
+use Rattle.table.specs.Syntax.{app, nil, Clause, Table, allClauses}
 use Rattle.rules.specs.Machinery.Unify.{solution}
-use Rattle.rules.specs.Setting.{Setting, over}
+use Rattle.rules.specs.Setting.{Setting, everyLeaf, over, base}
 use Rattle.rules.specs.Tableau.{start, Closed}
 use Rattle.rules.specs.Order.{Ending, found, nothing, Searched}
 use Rattle.rules.specs.Locality.{renumbered}
 use Rattle.rules.specs.Growing.{moved}
-use Rattle.rules.specs.Verdict.{accepted, Checks, finds-none, runs-out, ended}
+use Rattle.rules.specs.Evidence.{Evidence, enough}
+use Rattle.rules.specs.Answer.{disjunctsIn}
+use Rattle.rules.specs.Verdict.{accepted, Checks, finds, finds-none, runs-out, ended}
 use Rattle.rules.specs.Machinery.Play.{Play, Checking, passed, stopped, check, checked, searchFor, answerOf, disjunctsOf}
 use Rattle.rules.specs.Demands
 use Rattle.rules.proofs.System.Clash.{clash}
@@ -35,6 +37,8 @@ use Rattle.rules.proofs.Variables.{at-most-528}
 use Rattle.rules.proofs.Reading.{answer-read, answer-reads}
 use Rattle.rules.proofs.ClosedTableaux.{proof-length, step-numbers, answers-hold-as-numbered, larger-bound, larger-table, order-of-clauses}
 use Rattle.rules.proofs.Play.{most-general}
+use Rattle.rules.proofs.Evidence.{covers-under, answered}
+use Rattle.rules.proofs.Contradictions.{closed-evidence, closed-asks}
 
 -- the checker
 pub checker-follows-the-rules : Demands.CheckerFollowsTheRules
@@ -253,3 +257,54 @@ only-copied-clauses-matter rules t u number bound steps same = (
     back c =
         let p = closed-passed (over rules u bound) (map (renumbered number) steps) c in
         passed-closed (over rules t bound) steps (p .0) (sym (local-check same rules bound) ∙ p .1) .0
+
+-- completeness
+pub answer-completeness : Demands.AnswerCompleteness
+answer-completeness t e = answered t e
+
+pub answer-words-cover : Demands.AnswerWordsCover
+answer-words-cover t e a limits negative low count words w =
+    let c = a .closed in
+    let ρ = answer-is-most-general (base t (a .bound)) limits low (a .steps) c count words w (w .by) (w .general .solves) in
+    covers-under (t .question) (e .questions) (ρ .0) (disjunctsIn (t .question) words) (rw (ρ .1) at (a .covers negative (w .by) (w .general)))
+
+pub never-none-with-evidence : Demands.NeverNoneWithEvidence
+never-none-with-evidence t e a higher h budget tries f =
+    stated-first (base t higher) nothing (said (base t higher) budget {e = nothing} f) (a .steps) (larger-bound h (a .closed) .0)
+
+-- where no tableau is closed within a bound, the bound is not enough for any evidence
+pub not-enough : (t : Table) (bound : ℕ) → ((steps : List Step) → ¬ Closed (base t bound) steps) → (e : Evidence t) → bound < enough e
+not-enough t bound f e = go (decLt bound (enough e))
+  where
+    go : Dec (bound < enough e) → bound < enough e
+    go (yes l) = l
+    go (no l) =
+        let a = answered t e in
+        let low = a .low in
+        absurd (f (a .steps) (larger-bound {rules = everyLeaf} {larger = bound} (omega arith) (a .closed) .0))
+
+pub found-with-evidence : Demands.FoundWithEvidence
+found-with-evidence t e bound h = let s = search-ends (base t bound) in go (s .0) (s .1) (s .2)
+  where
+    go : (x : Ending) (tries : ℕ) → Searched (base t bound) (start t) x tries
+        → (steps : List Step) × (tries : ℕ) × ((budget : ℕ) → tries ≤ budget → searchFor (base t bound) budget ≡ finds steps tries)
+    go (found steps) tries d = (steps, tries, λ budget l. program-within (base t bound) budget d l)
+    go nothing tries d = let l = not-enough t bound (stated-first (base t bound) nothing d) e in absurd (omega arith)
+
+pub none-means : Demands.NoneMeans
+none-means t bound budget tries f = not-enough t bound (stated-first (base t bound) nothing (said (base t bound) budget {e = nothing} f))
+
+pub none-at-every-bound : Demands.NoneAtEveryBound
+none-at-every-bound t h e =
+    let a = answered t e in
+    let n = h (a .bound) in
+    never-none-with-evidence t e a (a .bound) (omega arith) (n .0) (n .1) (n .2)
+
+pub evidence-exactly : Demands.EvidenceExactly
+evidence-exactly t v h = (
+  λ e. let a = answered t e in (a .bound, a .steps, a .closed),
+  λ c. let u = c .2 .unifiable in closed-evidence (c .2) (u .by) (u .solves) (λ x. app 0 nil) v h,
+)
+
+pub answer-is-evidence : Demands.AnswerIsEvidence
+answer-is-evidence t v h negative bound steps c σ solves ρ = (closed-evidence c σ solves ρ v h, closed-asks c σ solves ρ v h negative)

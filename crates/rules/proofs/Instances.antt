@@ -61,6 +61,13 @@ module _ (f : Literal Variable → Literal Variable) where
   ancestor-map-back zero ls e = absurd (none-some e)
   ancestor-map-back (suc h) ls e = map-some-back f ls h e
 
+-- an ancestor stands in the branch
+pub ancestor-at : (h : ℕ) (ls : List (Literal Variable)) {m : Literal Variable} → ancestor h ls ≡ some m
+    → (n : ℕ) × (h ≡ suc n) × (getElem? ls n ≡ some m)
+unfolding ancestor
+ancestor-at zero ls e = absurd (none-some e)
+ancestor-at (suc h) ls e = (h, refl, e)
+
 opposed : (a b p q : Bool) → (not (Bool·beq a b) && p && q) ≡ true → b ≡ not a
 opposed true true p q e = sym e
 opposed true false p q e = refl

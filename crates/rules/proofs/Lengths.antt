@@ -12,7 +12,8 @@ use Rattle.rules.specs.Substitution.{Variable}
 use Rattle.rules.specs.Setting.{Setting}
 use Rattle.rules.specs.Tableau.{fresh, copyOf, Leaf, Tableau, hang, start, ancestor, others, Made, as-it-stands, by-step, Closed}
 use Rattle.rules.proofs.Lifting.{within-bound}
-use Rattle.rules.proofs.Lists.{none-some, All, all-at, all-append, all-right, all-more, some-below, length-others}
+use Rattle.rules.proofs.Instances.{ancestor-at}
+use Rattle.rules.proofs.Lists.{All, all-at, all-append, all-right, all-more, some-below, length-others}
 use Rattle.rules.proofs.Steps.{Does, reduces, extends, does, does-within}
 
 -- a step whose numbers are within the table's and the bound's
@@ -77,9 +78,11 @@ hang-shallow n branch [] h = tt
 hang-shallow n branch (l ∷ ls) h = (h, hang-shallow n branch ls h)
 
 ancestor-height : (h : ℕ) (branch : List (Literal Variable)) {m : Literal Variable} → ancestor h branch ≡ some m → (0 < h) × (h ≤ length branch)
-unfolding ancestor
-ancestor-height zero branch e = absurd (none-some e)
-ancestor-height (suc h) branch e = let k = some-below branch h e in (omega arith, k)
+ancestor-height h branch e =
+    let k = ancestor-at h branch e in
+    let height = k .1 in
+    let below = some-below branch (k .0) (k .2) in
+    (omega arith, omega arith)
 
 module _ {S : Setting} where
   step-shallow : {x y : Tableau} {s : Step} → Does S x s y → Shallow x → Shallow y

@@ -3,6 +3,7 @@ pub mod Steps
 pub mod Instances
 pub mod Trees
 pub mod Lifting
+pub mod Refuted
 pub mod Truth
 pub mod Locality
 pub mod Growing
@@ -19,6 +20,10 @@ pub mod Play
 pub mod Checker
 pub mod Search
 pub mod Demands
+pub mod Valuations
+pub mod Completeness
+pub mod Evidence
+pub mod Contradictions
 pub mod Cases
 pub mod Witnesses
 pub mod Substitution

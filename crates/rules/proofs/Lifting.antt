@@ -6,12 +6,12 @@ use mathlib.Core.Bool.{Bool, true, false, cond}
 use mathlib.Core.List.{List, [], _∷_, _++_, map, map-append, append-nil, append-assoc}
 use mathlib.Core.Logic.{_↔_}
 use mathlib.Core.Option.{some}
-use mathlib.Core.Path.{_≡_, refl, sym, _∙_, ap}
+use mathlib.Core.Path.{_≡_, refl, sym, _∙_, ap, ap₂}
 use native.Mathlib.Nat.{add-zero, suc-add, add-suc}
 use native.Mathlib.Omega.{arith}
 use Prim.Native.Nat.{ℕ, zero, suc, _+_, _≤_, zero-le}
 use Rattle.words.specs.declared.Step.{Step}
-use Rattle.words.specs.declared.Step.the-variants.{Reduction, Extension}
+use Rattle.words.specs.declared.Step.the-variants.{Reduction, Extension, Malformed}
 use Rattle.table.specs.Syntax.{Literal, literalUnder, Clause, Table, allClauses}
 use Rattle.rules.specs.Substitution.{Variable, Substitution, Solves}
 use Rattle.rules.specs.Setting.{Profile, Setting, over}
@@ -230,6 +230,43 @@ module _ (σ : Substitution) (S : Setting) where
       lift-next k
       (lift below (k .tableau) (k .as-leaves ∙ rw (f .0, c .3, c .4) hung) (rw (k .extensions) (f .1)) (rw (k .extensions) (omega arith)) (k .solves))
 
+-- the copies of the question that these steps make, where so many extensions are made before
+unfoldable copiesAsked : Table → ℕ → List Step → List ℕ
+copiesAsked t n [] = []
+copiesAsked t n (Reduction h ∷ ss) = copiesAsked t n ss
+copiesAsked t n (Extension i j ∷ ss) = cond (eqb i (length (t .clauses))) (suc n ∷ copiesAsked t (suc n) ss) (copiesAsked t (suc n) ss)
+copiesAsked t n (Malformed ∷ ss) = copiesAsked t n ss
+
+copies-step : {S : Setting} {x y : Tableau} {s : Step} (ss : List Step) → Does S x s y
+    → y .questions ++ copiesAsked (S .table) (y .extensions) ss ≡ x .questions ++ copiesAsked (S .table) (x .extensions) (s ∷ ss)
+unfolding copiesAsked questionsWith
+copies-step ss (reduces l a f e) = rw (← e)
+copies-step {S} {x} ss (extends {i = i} l u c a f e) =
+    rw (← e) (after (eqb i (length (S .table .clauses))) (x .questions) (suc (x .extensions)) (copiesAsked (S .table) (suc (x .extensions)) ss))
+  where
+    after : (b : Bool) (copies : List ℕ) (copy : ℕ) (more : List ℕ) → cond b (copies ++ (copy ∷ [])) copies ++ more ≡ copies ++ cond b (copy ∷ more) more
+    after true copies copy more = append-assoc copies (copy ∷ []) more
+    after false copies copy more = refl
+
+made-copies : {S : Setting} {x z : Tableau} {ss : List Step} → Made S x ss z → z .questions ≡ x .questions ++ copiesAsked (S .table) (x .extensions) ss
+unfolding copiesAsked
+made-copies {x = x} as-it-stands = sym (append-nil (x .questions))
+made-copies (by-step {s = s} {ss = ss} e m) = made-copies m ∙ copies-step ss (does s e)
+
+-- a substitution that follows the instances of a tree makes of these copies the question's instances in the tree
+asked-copies : (σ : Substitution) {rules : Profile} {t : Table} {ls : List Leaf} (tree : Tree rules t ls) (n : ℕ) → Follows σ (suc n) (instances tree)
+    → map (ofCopy σ) (copiesAsked t n (steps tree)) ≡ asked tree
+unfolding copiesAsked steps asked instances Follows
+asked-copies σ bare n f = refl
+asked-copies σ (reduction h a below) n f = asked-copies σ below n f
+asked-copies σ {t = t} (extension i j θ u c a e below) n f =
+    choice (eqb i (length (t .clauses))) (copiesAsked t (suc n) (steps below)) (f .0) (asked-copies σ below (suc n) (f .1))
+  where
+    choice : (b : Bool) (copies : List ℕ) {θs : List Instance} → ofCopy σ (suc n) ≡ θ → map (ofCopy σ) copies ≡ θs
+        → map (ofCopy σ) (cond b (suc n ∷ copies) copies) ≡ cond b (θ ∷ θs) θs
+    choice true copies e k = rw (e, k)
+    choice false copies e k = k
+
 module _ {rules : Profile} {t : Table} (x : InstanceTree rules t) where
   abbrev all-copies : Substitution
   all-copies = spread (x .root ∷ instances (x .tree))
@@ -253,6 +290,18 @@ module _ {rules : Profile} {t : Table} (x : InstanceTree rules t) where
         no-leaf-open = r .no-leaf-open;
         unifiable = record { by = σ; solves = r .solves };
       }
+
+  -- whose copies of the question, under one solution, are the question's instances in the tree, the start first
+  pub lifted-asks : {bound : ℕ} (h : size (x .tree) ≤ bound)
+      → (σ : Substitution) × Solves σ (lifted h .tableau .pairs) × (map (ofCopy σ) (lifted h .tableau .questions) ≡ x .root ∷ asked (x .tree))
+  unfolding lifted start
+  lifted-asks h =
+      let follows = spread-follows (x .root ∷ instances (x .tree)) (instances (x .tree)) 1 refl in
+      let c = lifted h in (
+        all-copies,
+        c .unifiable .solves,
+        ap (map (ofCopy all-copies)) (made-copies (c .made)) ∙ ap₂ _∷_ root-copy (asked-copies all-copies (x .tree) 0 follows),
+      )
 
 -- a closed tableau within the bound exists exactly where an instance tree within the bound does
 pub closed-iff-tree : (S : Setting)

@@ -1,5 +1,5 @@
 -- An answer holds in every interpretation in which all clauses but the question hold.
-use borrow.Author.Tests.{eq-eqb, ne-eqb, not-true}
+use borrow.Author.Tests.{eq-eqb, ne-eqb}
 use lib.Dec.{eqb}
 use lib.ListN.{length, getElem?}
 use mathlib.Core.Bool.{Bool, true, false, true≢false, cond, not, _&&_, _||_}
@@ -14,14 +14,15 @@ use Rattle.table.specs.Syntax.{Term, var, app, Terms, nil, _then_, under, under
 use Rattle.table.specs.Encode.{literalsWords}
 use Rattle.rules.specs.Substitution.{Variable, Substitution, Solves}
 use Rattle.rules.specs.Setting.{Profile, Setting}
-use Rattle.rules.specs.Tableau.{copyOf, Leaf, Tableau, hang, ancestor, others, Closed}
+use Rattle.rules.specs.Tableau.{copyOf, Leaf, Tableau, Closed}
 use Rattle.rules.specs.Answer.{positive, disjunct, disjuncts, joined, numbered, answerWords}
 use Rattle.rules.specs.Truth.{Interpretation, Assignment, AllNegative, value, values, atomTrue, literalTrue, someTrue, allTrue}
 use Rattle.rules.specs.Truth.{someAllTrue, Holds, AllHold, AnswerHolds}
 use Rattle.rules.proofs.Answer.{numberedDisjuncts}
 use Rattle.rules.proofs.Instances.{Instance, instance, opposite, ofCopy, copy-under}
 use Rattle.rules.proofs.Lifting.{treeUnder, tree-questions}
-use Rattle.rules.proofs.Lists.{All, all-left, all-right, all-at, last-or-before, none-some}
+use Rattle.rules.proofs.Lists.{All, last-or-before, none-some}
+use Rattle.rules.proofs.Refuted.{oneTrue, HungTrue, tree-false}
 use Rattle.rules.proofs.Trees.{Tree, bare, reduction, extension, asked, InstanceTree}
 
 module _ (I : Interpretation) {X Y : Type 0} (σ : X → Term Y) (a : Y → ℕ) where
@@ -84,10 +85,6 @@ unfolding Holds assignmentUnder
 instance-true I c θ a h = some-under I θ (a .element) (c .literals) ∙ h (assignmentUnder I θ a)
 
 module _ (I : Interpretation) (a : Variable → ℕ) where
-  -- a leaf all of whose ancestors are true is false
-  abbrev Refuted : Leaf → Type 0
-  Refuted leaf = All (λ m. literalTrue I a m ≡ true) (leaf .branch) → literalTrue I a (leaf .literal) ≡ false
-
   opposite-not : (l : Literal Variable) → literalTrue I a (opposite l) ≡ not (literalTrue I a l)
   unfolding opposite literalTrue atomTrue
   opposite-not l = turned (l .negative) (I .predicate (l .predicate) (values I a (l .arguments)))
@@ -98,40 +95,10 @@ module _ (I : Interpretation) (a : Variable → ℕ) where
       turned false true = refl
       turned false false = refl
 
-  all-false : (ls : List (Literal Variable)) → All (λ l. literalTrue I a l ≡ false) ls → someTrue I a ls ≡ false
-  unfolding someTrue All
-  all-false [] h = refl
-  all-false (l ∷ ls) h = rw (h .0) (all-false ls (h .1))
-
-  -- where the entered literal and all others are false, none is true
-  none-true : (ls : List (Literal Variable)) (j : ℕ) {m : Literal Variable} → getElem? ls j ≡ some m → literalTrue I a m ≡ false
-      → All (λ l. literalTrue I a l ≡ false) (others j ls) → someTrue I a ls ≡ false
-  unfolding others someTrue All
-  none-true [] j e f h = refl
-  none-true (l ∷ ls) zero {m} e f h = let same : l ≡ m = cc in rw (same, f) (all-false ls h)
-  none-true (l ∷ ls) (suc j) e f h = rw (h .0) (none-true ls j e f (h .1))
-
-  refuted-below : (branch ls : List (Literal Variable)) → All Refuted (hang branch ls) → All (λ m. literalTrue I a m ≡ true) branch
-      → All (λ l. literalTrue I a l ≡ false) ls
-  unfolding hang All
-  refuted-below branch [] h b = tt
-  refuted-below branch (l ∷ ls) h b = (h .0 b, refuted-below branch ls (h .1) b)
-
-  ancestor-true : (h : ℕ) (branch : List (Literal Variable)) {m : Literal Variable} → ancestor h branch ≡ some m
-      → All (λ m. literalTrue I a m ≡ true) branch → literalTrue I a m ≡ true
-  unfolding ancestor
-  ancestor-true zero branch e b = absurd (none-some e)
-  ancestor-true (suc h) branch e b = all-at (λ m. literalTrue I a m ≡ true) branch h e b
-
-  -- a leaf with an instance below it that has a true literal, all of whose other literals are refuted, is refuted
-  refuted-by : (leaf : Leaf) (ls : List (Literal Variable)) (j : ℕ) (b : Bool) → getElem? ls j ≡ some (opposite (leaf .literal))
-      → someTrue I a ls ≡ true → All Refuted (hang (leaf .literal ∷ leaf .branch) (others j ls))
-      → All (λ m. literalTrue I a m ≡ true) (leaf .branch) → literalTrue I a (leaf .literal) ≡ b → b ≡ false
-  unfolding All
-  refuted-by leaf ls j true e s h branch v =
-      let below = refuted-below (leaf .literal ∷ leaf .branch) (others j ls) h (v, branch) in
-      sym s ∙ none-true ls j e (opposite-not (leaf .literal) ∙ ap not v) below
-  refuted-by leaf ls j false e s h branch v = refl
+  one-true : (ls : List (Literal Variable)) → oneTrue (literalTrue I a) ls ≡ someTrue I a ls
+  unfolding oneTrue someTrue
+  one-true [] = refl
+  one-true (l ∷ ls) = ap (λ (b : Bool). literalTrue I a l || b) (one-true ls)
 
 hold-at : (I : Interpretation) (cs : List Clause) (i : ℕ) {c : Clause} → getElem? cs i ≡ some c → AllHold I cs → Holds I c
 unfolding AllHold
@@ -160,30 +127,20 @@ module _ (I : Interpretation) (t : Table) (a : Assignment I Variable) (hold : Al
           let other : eqb i (length (t .clauses)) ≡ false = ne-eqb i (length (t .clauses)) (λ e. omega arith) in
           (instance-true I clause θ a (hold-at I (t .clauses) i (c .1) hold), rw other at h)
 
-  tree-refutes : {rules : Profile} {ls : List Leaf} (tree : Tree rules t ls) → All (Denied I t (a .element)) (asked tree) → All (Refuted I (a .element)) ls
-  unfolding asked All
-  tree-refutes bare d = tt
-  tree-refutes (reduction {leaf = leaf} h e below) d = (
-    λ branch. not-true (literalTrue I (a .element) (leaf .literal))
-        (sym (opposite-not I (a .element) (leaf .literal)) ∙ ancestor-true I (a .element) h (leaf .branch) e branch),
-    tree-refutes below d,
-  )
-  tree-refutes (extension {leaf = leaf} {rest = rest} {clause = clause} i j θ u c e eq below) d =
+  hung-all : {rules : Profile} {ls : List Leaf} (tree : Tree rules t ls) → All (Denied I t (a .element)) (asked tree)
+      → HungTrue (literalTrue I (a .element)) tree
+  unfolding asked HungTrue
+  hung-all bare d = tt
+  hung-all (reduction h e below) d = hung-all below d
+  hung-all (extension {clause = clause} i j θ u c e eq below) d =
       let k = hung-true i θ (asked below) c d in
-      let ls : List (Literal Variable) = instance θ clause in
-      let hung : List Leaf = hang (leaf .literal ∷ leaf .branch) (others j ls) in
-      let h : All (Refuted I (a .element)) (hung ++ rest) = rw eq (tree-refutes below (k .1)) in (
-        λ branch. refuted-by I (a .element) leaf ls j _ e (k .0) (all-left (Refuted I (a .element)) hung rest h) branch refl,
-        all-right (Refuted I (a .element)) hung rest h,
-      )
+      (one-true I (a .element) (instance θ clause) ∙ k .0, hung-all below (k .1))
 
-  -- a tree whose every question's instance, the root too, has a true literal is not closed
-  tree-false : {rules : Profile} (x : InstanceTree rules t) → Denied I t (a .element) (x .root) → All (Denied I t (a .element)) (asked (x .tree)) → ⊥
-  unfolding All
-  tree-false x r d =
-      let ls : List (Literal Variable) = instance (x .root) (t .question) in
-      let h : All (Refuted I (a .element)) (hang [] ls) = rw (x .hung) (tree-refutes (x .tree) d) in
-      true≢false (sym r ∙ all-false I (a .element) ls (refuted-below I (a .element) [] ls h tt))
+  -- no closed tree's every question's instance, the root too, has a true literal
+  denied-false : {rules : Profile} (x : InstanceTree rules t) → Denied I t (a .element) (x .root) → All (Denied I t (a .element)) (asked (x .tree)) → ⊥
+  denied-false x r d =
+      tree-false (literalTrue I (a .element)) (opposite-not I (a .element)) x (one-true I (a .element) (instance (x .root) (t .question)) ∙ r)
+      (hung-all (x .tree) d)
 
 positive-under : (σ : Substitution) (l : Literal Variable) → literalUnder σ (positive l) ≡ positive (literalUnder σ l)
 unfolding positive literalUnder
@@ -210,10 +167,10 @@ module _ (I : Interpretation) (a : Variable → ℕ) where
       de-morgan false q = refl
 
 -- the disjunct of an instance of the question
-abbrev disjunctOf : Clause → Instance → List (Literal Variable)
+abbrev pub disjunctOf : Clause → Instance → List (Literal Variable)
 disjunctOf question θ = map positive (instance θ question)
 
-disjuncts-instances : (σ : Substitution) (question : Clause) (copies : List ℕ)
+pub disjuncts-instances : (σ : Substitution) (question : Clause) (copies : List ℕ)
     → map (disjunct σ question) copies ≡ map (disjunctOf question) (map (ofCopy σ) copies)
 disjuncts-instances σ question copies =
     ap (λ (f : ℕ → List (Literal Variable)). map f copies) (fun-ext (disjunct-instance σ question))
@@ -236,7 +193,7 @@ module _ (I : Interpretation) (t : Table) (a : Assignment I Variable) (hold : Al
       → someAllTrue I (a .element) (map (disjunctOf (t .question)) (x .root ∷ asked (x .tree))) ≡ b → b ≡ true
   unfolding All
   some-all-true x true e = refl
-  some-all-true x false e = let d = none-all-true (x .root ∷ asked (x .tree)) e in absurd (tree-false I t a hold x (d .0) (d .1))
+  some-all-true x false e = let d = none-all-true (x .root ∷ asked (x .tree)) e in absurd (denied-false I t a hold x (d .0) (d .1))
 
 -- the answer of a closed tableau holds where all clauses but the question hold
 pub answer-holds : (I : Interpretation) (S : Setting) {steps : List Step} (c : Closed S steps) (σ : Substitution)

@@ -21,6 +21,7 @@ use Rattle.rules.proofs.Substitution.{arity-unders}
 use Rattle.rules.proofs.Unify.{good-none, pairs-within, made-general, made-unifiable}
 use Rattle.rules.proofs.Unify.Outcome.{EachPair}
 use Rattle.rules.proofs.Unify.Run.{Within, Each, Hereditary}
+use Rattle.rules.proofs.Instances.{ancestor-at}
 use Rattle.rules.proofs.Lists.{none-some, some-last}
 use Rattle.rules.proofs.Every.{All, end, _also_, all-first, all-rest, all-append, some-same}
 use Rattle.rules.proofs.Steps.{Does, reduces, extends, does}
@@ -112,9 +113,7 @@ module _ (P : Variable → Type 0) where
   others-ranging n ls a = all-append (all-taken n ls a) (all-dropped (suc n) ls a)
 
   ancestor-ranging : (h : ℕ) (ls : List (Literal Variable)) {m : Literal Variable} → All Ranging ls → ancestor h ls ≡ some m → Ranging m
-  unfolding ancestor
-  ancestor-ranging zero ls a e = absurd (none-some e)
-  ancestor-ranging (suc h) ls a e = all-at ls h a e
+  ancestor-ranging h ls a e = let k = ancestor-at h ls e in all-at ls (k .0) a (k .2)
 
   -- the leaves and the pairs of a tableau
   record LeafRanging (leaf : Leaf) : Type 0 where

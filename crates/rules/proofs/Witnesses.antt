@@ -1,16 +1,17 @@
 -- The witnesses, proved: each statement of specs/Witnesses.antt.
+use borrow.Author.Tests.{lt-ltb}
 use lib.Dec.{eqb}
 use lib.ListN.{length}
-use mathlib.Core.Bool.{Bool, true, false, cond, true≢false, _||_}
+use mathlib.Core.Bool.{Bool, true, false, cond, not, true≢false, _||_}
 use mathlib.Core.List.{List, [], _∷_, _++_, flatten}
 use mathlib.Core.Logic.{_⊎_, inl, inr}
-use mathlib.Core.Path.{_≡_, refl, sym, _∙_, ap}
+use mathlib.Core.Path.{_≡_, refl, sym, _∙_, ap, subst}
 use native.Mathlib.Omega.{arith}
 use Prim.Native.Nat.{ℕ, zero, suc, _+_, _≤_, _<_}
 use Rattle.words.specs.declared.Step.{Step}
 use Rattle.words.specs.declared.Step.the-variants.{Extension}
 use Rattle.table.specs.Limits.{TermWithin, LiteralWithin, Each, ClauseWithin}
-use Rattle.table.specs.Syntax.{Term, var, app, Terms, nil, _then_, under, Literal, Clause, Table}
+use Rattle.table.specs.Syntax.{Term, var, app, Terms, nil, _then_, under, Literal, literalUnder, Clause, Table}
 use Rattle.table.proofs.Opened.{opened}
 use Rattle.rules.specs.Substitution.{Variable, Solves}
 use Rattle.rules.specs.Setting.{Setting, base}
@@ -22,6 +23,8 @@ use Rattle.rules.specs.System.{_∈_, first, later}
 use Rattle.rules.specs.Locality.{renumbered, SameClauseAt}
 use Rattle.rules.specs.Growing.{Inserted, at-end, kept, added, along, moved}
 use Rattle.rules.specs.Reordered.{Reordered, empty, next, swapped, in-turn, SameClause}
+use Rattle.rules.specs.Evidence.{Valuation, clauseTrue, InstanceOf, InstancesTrue, QuestionsTrue, Ground, Grounding, groundInstance, Evidence, leafNeeds, mostOthers, enough, turned}
+use Rattle.rules.specs.Evidence as Evidence
 use Rattle.rules.specs.Verdict.{Answers, finds-none, runs-out}
 use Rattle.rules.specs.Machinery.Play.{Play, Checking, passed, stopped, check, answerOf, disjunctsOf}
 use Rattle.rules.specs.Witnesses as W
@@ -30,6 +33,7 @@ use Rattle.rules.proofs.Cases.{played}
 use Rattle.rules.proofs.Checker.{checker-says}
 use Rattle.rules.proofs.Demands.{said, closed-passed, none-exactly, found-is-first, found-is-accepted, accepted-has-answer, one-first}
 use Rattle.rules.proofs.Reading.{read-once}
+use Rattle.rules.proofs.Valuations.{possible?}
 
 -- truth
 pub every-domain : W.EveryDomain
@@ -353,3 +357,101 @@ copied-behind = (
         → SameClauseAt W.season behind clause (suc clause)
     copied clause literal (inl e) = one-higher 0 0 clause literal e (record { clause = refl; question = (λ e. omega arith, λ e. omega arith) })
     copied clause literal (inr e) = one-higher 1 0 clause literal e (record { clause = refl; question = (λ e. refl, λ e. refl) })
+
+-- evidence
+unfoldable seen-evidence : Unit {0}
+unfolding under literalUnder Evidence.literalTrue clauseTrue Each leafNeeds mostOthers enough turned
+seen-evidence = tt
+
+either : (a b : Bool) → (a || (b || false)) ≡ true → (not a || false) ≡ true → (not b || false) ≡ true → ⊥
+either true b e f g = true≢false (sym f)
+either false true e f g = true≢false (sym g)
+either false false e f g = true≢false (sym e)
+
+pub bill-is-evidence : W.BillIsEvidence
+unfolding seen-evidence played
+bill-is-evidence = record {
+  evidence = record {
+    clauses = record { clause = W.bill; among = first; by = W.slot 1 } ∷ [];
+    questions = W.slot 2 ∷ W.slot 3 ∷ [];
+    impossible = λ v h. either (v 1 (app 1 nil then app 2 nil then nil)) (v 1 (app 1 nil then app 3 nil then nil)) (h .0 .0) (h .1 .0) (h .1 .1 .0);
+    possible = (λ p ts. true, (refl, tt));
+  };
+  asks = refl;
+  two-are-enough = refl;
+  none-with-one = refl;
+}
+
+pub evidence-asks : W.EvidenceAsks
+unfolding Each
+evidence-asks t e none =
+    let p = e .possible in
+    e .impossible (p .0) (p .1, subst (λ (θs : List Grounding). QuestionsTrue (p .0) (t .question) θs) (sym none) tt)
+
+-- an atom's slot; only what is at the matinee is true
+named : Ground → ℕ
+named (var x) = 0
+named (app f ts) = f
+
+slotNamed : Terms ⊥ → ℕ
+slotNamed nil = 0
+slotNamed (e then nil) = 0
+slotNamed (e then slot then ts) = named slot
+
+slotAsked : List (Literal ⊥) → ℕ
+slotAsked [] = 0
+slotAsked (l ∷ ls) = slotNamed (l .arguments)
+
+abbrev atMatinee : Valuation ⊥
+atMatinee p ts = eqb (slotNamed ts) 2
+
+pub no-evidence : W.NoEvidence
+unfolding seen-evidence named slotNamed
+no-evidence e = e .impossible atMatinee (all-stated (e .clauses), none-asked (e .questions))
+  where
+    one-stated : {c : Clause} → c ≡ W.stated → (θ : Grounding) → clauseTrue atMatinee (groundInstance θ c) ≡ true
+    one-stated same θ = rw same refl
+
+    all-stated : (is : List (InstanceOf (W.stated ∷ []))) → InstancesTrue atMatinee is
+    all-stated [] = tt
+    all-stated (i ∷ is) = (one-stated (of-one (i .among)) (i .by), all-stated is)
+
+    none-asked : (θs : List Grounding) → QuestionsTrue atMatinee (W.asked (W.constant 3) .question) θs
+    none-asked [] = tt
+    none-asked (θ ∷ θs) = (refl, none-asked θs)
+
+pub silent-at-every-bound : W.SilentAtEveryBound
+unfolding played
+silent-at-every-bound zero = (0, 0, refl)
+silent-at-every-bound (suc n) = let e = lt-ltb 0 (suc n) (omega arith) in (1, 1, rw e (rw e))
+
+pub some-cover : W.SomeCover
+unfolding seen-evidence named slotNamed slotAsked
+some-cover = (
+  (λ x. app 0 nil, ((W.slot 2, first, refl), ((W.slot 3, later first, refl), tt))),
+  λ c. let k = c .1 .0 in
+      let same : k .0 ≡ W.slot 2 = of-one (k .1) in
+      let wrong : _≡_ {A = ℕ} 3 2 = ap slotAsked (k .2 ∙ ap (λ (θ : Grounding). groundInstance θ W.which) same) in absurd (omega arith),
+)
+
+pub truth-is-decided : W.TruthIsDecided
+unfolding Each
+truth-is-decided cs = go (possible? (λ (x y : ⊥). absurd x) (λ (c : List (Literal ⊥)). c) cs [])
+  where
+    go : Dec ((v : Valuation ⊥) × Each (λ c. clauseTrue v c ≡ true) cs × Unit {0}) → Dec ((v : Valuation ⊥) × Each (λ c. clauseTrue v c ≡ true) cs)
+    go (yes p) = yes (p .0, p .1)
+    go (no f) = no (λ p. f (p .0, p .1, tt))
+
+pub some-are-true : W.SomeAreTrue
+unfolding seen-evidence
+some-are-true = (
+  (λ p ts. true, λ i. bill-true (of-one (i .among)) (i .by)),
+  λ v h. never (v 1 (app 1 nil then app 2 nil then nil)) (h (record { clause = W.stated; among = first; by = W.slot 1 })) (h (record { clause = _; among = later first; by = W.slot 1 })),
+)
+  where
+    bill-true : {c : Clause} → c ≡ W.bill → (θ : Grounding) → clauseTrue (λ p ts. true) (groundInstance θ c) ≡ true
+    bill-true same θ = rw same refl
+
+    never : (a : Bool) → (a || false) ≡ true → (not a || false) ≡ true → ⊥
+    never true e f = true≢false (sym f)
+    never false e f = true≢false (sym e)

@@ -10,7 +10,7 @@ use Rattle.words.specs.declared.Step.{Step}
 use Rattle.table.specs.Limits.{Within}
 use Rattle.table.specs.Syntax.{Term, literalUnder, Table}
 use Rattle.rules.specs.Substitution.{Variable, Substitution, Solves, MostGeneral}
-use Rattle.rules.specs.Setting.{Profile, Setting, over}
+use Rattle.rules.specs.Setting.{Profile, Setting, over, base}
 use Rattle.rules.specs.Tableau.{Tableau, start, Closed}
 use Rattle.rules.specs.Order.{Before, Ending, Searched, First}
 use Rattle.rules.specs.Answer.{disjuncts, occurringAll, firsts, joined, disjunctsIn, Reads}
@@ -18,6 +18,7 @@ use Rattle.rules.specs.Truth.{Interpretation, AllNegative, AllHold, True
 use Rattle.rules.specs.Locality.{renumbered, SameCopied}
 use Rattle.rules.specs.Growing.{along, Larger, moved}
 use Rattle.rules.specs.Reordered.{SameTable}
+use Rattle.rules.specs.Evidence.{Valuation, Ground, groundInstance, AllInstancesTrue, Evidence, enough, turned, Covers}
 use Rattle.rules.specs.Verdict.{CheckVerdict, Checks, SearchVerdict, finds, finds-none, runs-out, ended, Searches, Answers}
 use Rattle.rules.specs.Machinery.Play.{Play, passed, check, checked, searchFor, answerOf, disjunctsOf}
 
@@ -164,3 +165,60 @@ LargerHasTheCopied = (t u : Table) (larger : Larger t u) (steps : List Step) →
 abbrev pub OrderDoesNotMatter : Type 0
 OrderDoesNotMatter =
     (rules : Profile) (t u : Table) → SameTable t u → (bound : ℕ) → ((steps : List Step) × Closed (over rules t bound) steps) ↔ ((steps : List Step) × Closed (over rules u bound) steps)
+
+-- COMPLETENESS
+-- Evidence for an answer is answered by a closed tableau within some bound whose answer covers the evidence.
+pub record Answered (t : Table) (e : Evidence t) : Type 0 where
+  pub bound : ℕ
+  pub low : bound ≤ enough e
+  pub steps : List Step
+  pub closed : Closed (base t bound) steps
+  pub covers : AllNegative (t .question .literals) → (σ : Substitution) → MostGeneral σ (closed .tableau .pairs)
+      → Covers (t .question) (e .questions) (disjuncts σ t (closed .tableau))
+
+-- All evidence is.
+abbrev pub AnswerCompleteness : Type 0
+AnswerCompleteness = (t : Table) (e : Evidence t) → Answered t e
+
+-- The disjuncts that are read in that answer's words cover the evidence too.
+abbrev pub AnswerWordsCover : Type 0
+AnswerWordsCover =
+    (t : Table) (e : Evidence t) (a : Answered t e) → Within t → AllNegative (t .question .literals) → a .bound ≤ 32 → (count : ℕ) (words : List ℕ)
+    → Answers t (a .closed .tableau) count words → Covers (t .question) (e .questions) (disjunctsIn (t .question) words)
+
+-- At that bound or a higher one no search says "none", whatever its budget.
+abbrev pub NeverNoneWithEvidence : Type 0
+NeverNoneWithEvidence =
+    (t : Table) (e : Evidence t) (a : Answered t e) (higher : ℕ) → a .bound ≤ higher → (budget tries : ℕ)
+    → searchFor (base t higher) budget ≢ finds-none tries
+
+-- With a budget that is large enough it finds a proof.
+abbrev pub FoundWithEvidence : Type 0
+FoundWithEvidence =
+    (t : Table) (e : Evidence t) (bound : ℕ) → enough e ≤ bound
+    → (steps : List Step) × (tries : ℕ) × ((budget : ℕ) → tries ≤ budget → searchFor (base t bound) budget ≡ finds steps tries)
+
+-- So where a search says "none" there is no evidence for which its bound is enough,
+abbrev pub NoneMeans : Type 0
+NoneMeans = (t : Table) (bound budget tries : ℕ) → searchFor (base t bound) budget ≡ finds-none tries → (e : Evidence t) → bound < enough e
+
+-- and where one says "none" at every bound there is no evidence at all.
+abbrev pub NoneAtEveryBound : Type 0
+NoneAtEveryBound =
+    (t : Table) → ((bound : ℕ) → (budget : ℕ) × (tries : ℕ) × (searchFor (base t bound) budget ≡ finds-none tries)) → ¬ Evidence t
+
+-- No answer goes without evidence: where some valuation makes all ground instances of the clauses before the question true, there is evidence
+-- exactly where there is a closed tableau within some bound.
+abbrev pub EvidenceExactly : Type 0
+EvidenceExactly =
+    (t : Table) (v : Valuation ⊥) → AllInstancesTrue v (t .clauses)
+    → Evidence t ↔ ((bound : ℕ) × (steps : List Step) × Closed (base t bound) steps)
+
+-- There every answer is evidence's: the disjuncts of a closed tableau under any solution, with any ground terms put for the variables left, are,
+-- their literals turned over, the instances of the question in some evidence.
+abbrev pub AnswerIsEvidence : Type 0
+AnswerIsEvidence =
+    (t : Table) (v : Valuation ⊥) → AllInstancesTrue v (t .clauses) → AllNegative (t .question .literals) → (bound : ℕ) (steps : List Step)
+    (c : Closed (base t bound) steps) (σ : Substitution) → Solves σ (c .tableau .pairs) → (ρ : Variable → Ground)
+    → (e : Evidence t)
+    × (map (λ θ. groundInstance θ (t .question)) (e .questions) ≡ map (λ d. map turned (map (literalUnder ρ) d)) (disjuncts σ t (c .tableau)))

@@ -10,5 +10,6 @@ pub mod Machinery
 pub mod Locality
 pub mod Growing
 pub mod Reordered
+pub mod Evidence
 pub mod Demands
 pub mod Witnesses

@@ -3,12 +3,12 @@
 use lib.ListN.{length}
 use mathlib.Core.Bool.{Bool, true, false}
 use mathlib.Core.List.{List, [], _∷_, _++_}
-use mathlib.Core.Logic.{_↔_}
+use mathlib.Core.Logic.{_↔_, _≢_}
 use mathlib.Core.Path.{_≡_}
 use Prim.Native.Nat.{ℕ, suc, _≤_, _<_}
 use Rattle.words.specs.declared.Step.{Step}
 use Rattle.words.specs.declared.Step.the-variants.{Reduction, Extension, Malformed}
-use Rattle.table.specs.Limits.{Within}
+use Rattle.table.specs.Limits.{Within, Each}
 use Rattle.table.specs.Syntax.{Term, var, app, nil, _then_, Literal, Clause, Table}
 use Rattle.rules.specs.Substitution.{Variable, Unifiable, MostGeneral}
 use Rattle.rules.specs.Setting.{base}
@@ -19,6 +19,7 @@ use Rattle.rules.specs.Truth.{Interpretation, Assignment, AllNegative, a
 use Rattle.rules.specs.Locality.{SameCopied}
 use Rattle.rules.specs.Growing.{Larger, moved}
 use Rattle.rules.specs.Reordered.{SameTable}
+use Rattle.rules.specs.Evidence.{Valuation, clauseTrue, Grounding, AllInstancesTrue, Evidence, enough, Covers}
 use Rattle.rules.specs.Verdict.{malformed, not-allowed, not-unified, leaves-open, refused, Checks, finds, finds-none, runs-out, Answers}
 use Rattle.rules.specs.Machinery.Play.{Play, passed, check, searchFor}
 
@@ -202,3 +203,41 @@ abbrev pub CopiedBehind : Type 0
 CopiedBehind =
     SameCopied season (with-clauses (stated ∷ bill ∷ []) which) (λ i. suc i) proof
     × ¬ SameCopied season (with-clauses (stated ∷ bill ∷ []) which) (λ i. i) proof
+
+-- EVIDENCE
+-- every variable is given this slot
+abbrev pub slot : ℕ → Grounding
+slot f x = app f nil
+
+-- The bill, with the question at the matinee and at the evening, is evidence, and a bound of 2 is enough for it; at 1 the search says "none".
+pub record BillIsEvidence : Type 0 where
+  pub evidence : Evidence season
+  pub asks : evidence .questions ≡ slot 2 ∷ slot 3 ∷ []
+  pub two-are-enough : enough evidence ≡ 2
+  pub none-with-one : searchFor (base season 1) 4 ≡ finds-none 4
+
+-- No evidence is without an instance of the question. For at(e,eve), where at(e,mat) is all that is said, there is none,
+abbrev pub EvidenceAsks : Type 0
+EvidenceAsks = (t : Table) (e : Evidence t) → e .questions ≢ []
+
+abbrev pub NoEvidence : Type 0
+NoEvidence = ¬ Evidence (asked (constant 3))
+
+-- and the search says "none" at every bound.
+abbrev pub SilentAtEveryBound : Type 0
+SilentAtEveryBound = (bound : ℕ) → (budget : ℕ) × (tries : ℕ) × (searchFor (base (asked (constant 3)) bound) budget ≡ finds-none tries)
+
+-- "Matinee or evening" covers the evidence; "evening" does not cover an instance at the matinee.
+abbrev pub SomeCover : Type 0
+SomeCover =
+    Covers which (slot 2 ∷ slot 3 ∷ []) ((matinee ∷ []) ∷ (evening ∷ []) ∷ []) × ¬ Covers which (slot 2 ∷ []) ((evening ∷ []) ∷ [])
+
+-- Whether a valuation makes finitely many ground clauses true is decided, so both conditions on evidence are.
+abbrev pub TruthIsDecided : Type 0
+TruthIsDecided = (cs : List (List (Literal ⊥))) → Dec ((v : Valuation ⊥) × Each (λ c. clauseTrue v c ≡ true) cs)
+
+-- All ground instances of the bill can be true; those of a fact and of its denial cannot.
+abbrev pub SomeAreTrue : Type 0
+SomeAreTrue =
+    ((v : Valuation ⊥) × AllInstancesTrue v (season .clauses))
+    × ((v : Valuation ⊥) → ¬ AllInstancesTrue v (stated ∷ record { variables = 0; literals = played true (constant 2) ∷ [] } ∷ []))
