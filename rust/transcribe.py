@@ -8,6 +8,8 @@ import sys
 
 TOP = pathlib.Path(__file__).resolve().parent.parent
 CLAUSE = re.compile(r"\b(requires|ensures)\s*\{")
+# What the language's own library has as a function, Rust has as a method.
+WRAPPING = re.compile(r"(?m)^use std::num::(wrapping_(\w+)_(u\d+));\n")
 
 
 def without_contracts(text):
@@ -23,6 +25,7 @@ def without_contracts(text):
 
 def as_rust(text):
     text = without_contracts(re.sub(r"(?m)^ghost use .*?;\n", "", text))
+    text = WRAPPING.sub(r"fn \1(a: \3, b: \3) -> \3 {\n    a.wrapping_\2(b)\n}\n", text)
     text = re.sub(r"(?m)^((?:pub(?:\(crate\))? )?(?:struct|enum) )", r"#[derive(Clone, Copy)]\n\1", text)
     return text.replace("#[no_mangle]\n", "").replace('extern "C" fn', "fn")
 

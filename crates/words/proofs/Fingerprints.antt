@@ -3,15 +3,34 @@ use mathlib.Core.Path.{_≡_, refl, sym, ap, _∙_}
 use mathlib.Core.List.{List, [], _∷_, _++_}
 use Prim.Native.Nat.{ℕ, _+_, _*_, _%_, _^_, _≤_, _<_}
 use native.Mathlib.Numerals.{add-one}
+use native.Mathlib.Nat.{mod-add-mod, add-mod-mod}
+use native.Mathlib.Omega.{arith}
 use lib.ListN.{length, drop, getD, drop-of-length-le}
 use lib.Seq.{drop-cons}
 use lib.Bits.{bitXor}
 use Rattle.words.specs.Fields.{bits}
 use Rattle.words.specs.Fingerprint.{product, mixed, fnv, wordBytes, bytesOf}
 
-pub product-is : (h : ℕ) → h * 0x01000193 % 2 ^ 32 ≡ product h
-unfolding product
-product-is h = refl
+-- what wraps may wrap once, at the end
+wrap-left : (a b : ℕ) → (a % 2 ^ 32 + b) % 2 ^ 32 ≡ (a + b) % 2 ^ 32
+wrap-left a b = mod-add-mod a (2 ^ 32) b
+
+wrap-both : (a b : ℕ) → (a % 2 ^ 32 + b % 2 ^ 32) % 2 ^ 32 ≡ (a + b) % 2 ^ 32
+wrap-both a b = wrap-left a (b % 2 ^ 32) ∙ add-mod-mod a b (2 ^ 32)
+
+-- the product from shifted copies, added with wrap: the prime is 2^24 + 2^8 + 2^7 + 2^4 + 2 + 1
+module _ (h : ℕ) {high middle low rest r : ℕ} where
+  pub from-copies : r ≡ (high + rest) % 2 ^ 32 → rest ≡ (middle + low) % 2 ^ 32 → low ≡ (h * 2 ^ 1 % 2 ^ 32 + h) % 2 ^ 32
+      → middle ≡ (h * 2 ^ 7 % 2 ^ 32 + h * 2 ^ 4 % 2 ^ 32) % 2 ^ 32 → high ≡ (h * 2 ^ 24 % 2 ^ 32 + h * 2 ^ 8 % 2 ^ 32) % 2 ^ 32
+      → r ≡ product h
+  unfolding product
+  from-copies whole r-is l m hi =
+      whole
+      ∙ rw (r-is, hi, m, l, wrap-both (h * 2 ^ 24), wrap-both (h * 2 ^ 7), wrap-left (h * 2 ^ 1), wrap-both (h * 2 ^ 7 + h * 2 ^ 4), wrap-both (h * 2 ^ 24 + h * 2 ^ 8))
+      (ap (λ (n : ℕ). n % 2 ^ 32) sum)
+    where
+      sum : (h * 2 ^ 24 + h * 2 ^ 8) + ((h * 2 ^ 7 + h * 2 ^ 4) + (h * 2 ^ 1 + h)) ≡ h * 0x01000193
+      sum = omega arith
 
 pub mixed-none : (h : ℕ) → mixed h [] ≡ h
 unfolding mixed

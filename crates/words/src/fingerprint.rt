@@ -6,17 +6,19 @@ ghost use Rattle.words.specs.Fields.{bits};
 ghost use Rattle.words.specs.Fingerprint.{product, mixed, fnv, wordBytes, fingerprint};
 use crate::bytes::small;
 use crate::fields::bits;
+use std::num::wrapping_add_u32;
 
 // What the fingerprint of no words is.
 pub const BASIS: u32 = 0x811C_9DC5;
 
-const PRIME: u64 = 0x0100_0193;
-
-// The product by the prime, keeping the low 32 bits.
+// The product by the prime, keeping the low 32 bits: the prime is 2^24 + 2^8 + 2^7 + 2^4 + 2 + 1.
 pub fn product(h: u32) -> u32
     ensures { λ r. ⌜ r ≡ product h ⌝ }
 {
-    ((h as u64 * PRIME) % 0x1_0000_0000) as u32
+    let high = wrapping_add_u32(h << 24, h << 8);
+    let middle = wrapping_add_u32(h << 7, h << 4);
+    let low = wrapping_add_u32(h << 1, h);
+    wrapping_add_u32(high, wrapping_add_u32(middle, low))
 }
 
 pub fn mix_byte(h: u32, b: u32) -> u32
