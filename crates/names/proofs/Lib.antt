@@ -1,5 +1,7 @@
 pub mod Same
-pub mod Buckets
-pub mod Chains
 pub mod Notes
+pub mod Looking
 pub mod Counts
+pub mod Stems
+pub mod Marking
+pub mod Using

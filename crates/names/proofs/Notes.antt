@@ -1,19 +1,32 @@
--- Noting a use of a name, with premises as the code has them.
-use mathlib.Core.Bool.{Bool, true, false, cond}
-use mathlib.Core.List.{List, [], _∷_, _++_, map, map-append}
+-- The number of a name among names that are known, and the names known after a use of it.
+use mathlib.Core.Bool.{Bool, true, false, cond, _&&_}
+use mathlib.Core.List.{List, [], _∷_, _++_}
 use mathlib.Core.Path.{_≡_, refl, sym, ap, _∙_}
-use Prim.Native.Nat.{ℕ, zero, suc, _+_, _-_, _%_, _≤_, _<_}
-use native.Mathlib.Numerals.{add-one}
+use Prim.Native.Nat.{ℕ, zero, suc, _≤_, _<_}
 use native.Mathlib.Omega.{arith}
-use borrow.Author.Tests.{eqb-true, eqb-false, eq-eqb, ne-eqb, leb-true, leb-false}
-use lib.Dec.{eqb, leb}
-use lib.ListN.{length, take, drop, getD, set, length-set}
-use lib.Seq.{take-suc-set, getD-set-same, getD-set-other}
+use borrow.Author.Tests.{eqb-true, eq-eqb}
+use lib.Dec.{eqb}
+use lib.ListN.{length, getD}
 use Rattle.names.specs.Numbers.{Name, sameName, noted, numberIn}
-use Rattle.names.specs.Noting.{nameAt, namesAt, bucketOf, bucketAt, latest, Links, Table, grown, Noted}
-use Rattle.names.proofs.Chains.{same-self, names-at, names-length}
 
--- the number of a name, and the names known after a use of it
+-- the same name is the same bytes
+both : (t u : Bool) → (t && u) ≡ true → (t ≡ true) × (u ≡ true)
+both true u e = (refl, e)
+both false u e = let z : _≡_ {A = ℕ} 0 1 = cc in absurd (omega arith)
+
+pub same-is : (a b : Name) → sameName a b ≡ true → a ≡ b
+unfolding sameName
+same-is [] [] e = refl
+same-is [] (d ∷ ds) e = let z : _≡_ {A = ℕ} 0 1 = cc in absurd (omega arith)
+same-is (c ∷ cs) [] e = let z : _≡_ {A = ℕ} 0 1 = cc in absurd (omega arith)
+same-is (c ∷ cs) (d ∷ ds) e =
+    let h : cs ≡ ds = same-is cs ds (both (eqb c d) (sameName cs ds) e .1) in rw (eqb-true c d (both (eqb c d) (sameName cs ds) e .0), h)
+
+pub same-self : (a : Name) → sameName a a ≡ true
+unfolding sameName
+same-self [] = refl
+same-self (c ∷ cs) = rw (eq-eqb c c refl) (same-self cs)
+
 pub number-within : (names : List Name) (name : Name) → numberIn names name ≤ length names
 unfolding numberIn
 number-within [] name = omega arith
@@ -64,105 +77,31 @@ number-new (n ∷ ns) name h = go (sameName n name) (number-new ns name) h
     go true ih h = absurd (omega arith)
     go false ih h = ap suc (ih (omega arith))
 
--- a place noted after the first ones changes nothing of them
-module _ (text places : List ℕ) (count name : ℕ) where
-  bucket-kept : (k : ℕ) → k < count → bucketAt text (set places count name) k ≡ bucketAt text places k
-  bucket-kept k h = rw (getD-set-other places count k name 0 (λ e. omega arith))
+-- the name that a number tells
+pub name-of : (names : List Name) (name : Name) → numberIn names name < length names → getD names (numberIn names name) [] ≡ name
+unfolding numberIn
+name-of [] name h = absurd (omega arith)
+name-of (n ∷ ns) name h = go (sameName n name) refl (name-of ns name) h
+  where
+    go : (t : Bool) → sameName n name ≡ t → (numberIn ns name < length ns → getD ns (numberIn ns name) [] ≡ name)
+        → cond t 0 (suc (numberIn ns name)) < suc (length ns) → getD (n ∷ ns) (cond t 0 (suc (numberIn ns name))) [] ≡ name
+    go true e ih h = same-is n name e
+    go false e ih h = ih (omega arith)
 
-  latest-kept : (b n : ℕ) → n ≤ count → latest text (set places count name) b n ≡ latest text places b n
-  unfolding latest
-  latest-kept b zero h = refl
-  latest-kept b (suc n) h = rw (bucket-kept n h, latest-kept b n (omega arith))
+-- where a name has no number, none of the names is it
+pub absent-at : (names : List Name) (name : Name) → numberIn names name ≡ length names → (k : ℕ) → k < length names → getD names k [] ≡ name → ⊥
+unfolding numberIn
+absent-at [] name h k g e = omega arith
+absent-at (n ∷ ns) name h k g e = go (λ p j q r. absent-at ns name p j q r) (sameName n name) refl h
+  where
+    later : (numberIn ns name ≡ length ns → (k : ℕ) → k < length ns → getD ns k [] ≡ name → ⊥) → sameName n name ≡ false → suc (numberIn ns name) ≡ suc (length ns) → (k : ℕ) → k < suc (length ns) → getD (n ∷ ns) k [] ≡ name → ⊥
+    later ih q h zero g e =
+        let same : sameName n name ≡ true = rw e (same-self name) in
+        let z : _≡_ {A = Bool} true false = sym same ∙ q in
+        let w : _≡_ {A = ℕ} 0 1 = cc in omega arith
+    later ih q h (suc k) g e = ih (omega arith) k (omega arith) e
 
-long : {text places before : List ℕ} {count : ℕ} → count ≤ 4096 → Links text places before count → length (namesAt text (take count places)) ≡ count
-long {text} {places} {before} {count} few l = names-length text places count (omega (arith, l .placesLong))
-
-module _ {text places before heads : List ℕ} {count name : ℕ} (few : count ≤ 4096) (t : Table text places before heads count)
-    {at : ℕ} (w : at ≡ name) where
-  pub found-head : {b : ℕ} → b ≡ bucketOf (nameAt text at) → getD heads b 0 ≡ latest text places (bucketOf (nameAt text at)) count
-  found-head {b} q = t .newest b (omega (arith, q)) ∙ ap (λ (x : ℕ). latest text places x count) q
-
-  module _ {number : ℕ} (found : number ≡ numberIn (namesAt text (take count places)) (nameAt text at)) where
-    n : number ≡ numberIn (namesAt text (take count places)) (nameAt text name)
-    n = rw w at found
-
-    pub note-known : number < count → Noted text places before heads count name places before heads number
-    note-known h =
-        let g : eqb number count ≡ false = ne-eqb number count (λ e. omega arith) in
-        record {
-          is = n;
-          known = rw g (sym (noted-known (namesAt text (take count places)) (nameAt text name) (omega (arith, n, long few (t .links)))));
-          table = rw g t;
-        }
-
-    module _ (h : count ≤ number) {b : ℕ} (q : b ≡ bucketOf (nameAt text at)) where
-      absent : numberIn (namesAt text (take count places)) (nameAt text name) ≡ length (namesAt text (take count places))
-      absent = omega (arith, n, long few (t .links), number-within (namesAt text (take count places)) (nameAt text name))
-
-      at-count : getD (set places count name) count 0 ≡ name
-      at-count = getD-set-same places count name 0 (omega (arith, t .links .placesLong))
-
-      b-is : bucketAt text (set places count name) count ≡ b
-      b-is = rw (at-count, q, w)
-
-      grows : namesAt text (take (count + 1) (set places count name)) ≡ namesAt text (take count places) ++ (nameAt text name ∷ [])
-      grows =
-          let k : count < length places = omega (arith, t .links .placesLong) in
-          rw (add-one count, take-suc-set places count name k) (map-append (λ (at : ℕ). nameAt text at) (take count places) (name ∷ []))
-
-      -- each of the first ones, or the last
-      by-last : (P : ℕ → Type 0) → ((k : ℕ) → k < count → P k) → P count → (k : ℕ) → k < count + 1 → P k
-      by-last P f g k j = go (eqb k count) refl
-        where
-          go : (t : Bool) → eqb k count ≡ t → P k
-          go true e = rw (eqb-true k count e) g
-          go false e = let d : k ≡ count → ⊥ = eqb-false k count e in f k (omega arith)
-
-      older : (k : ℕ) → k < count + 1
-          → getD (set before count (getD heads b 0)) k 0 ≡ latest text (set places count name) (bucketAt text (set places count name) k) k
-      older = by-last _
-          (λ k j. rw (
-            getD-set-other before count k (getD heads b 0) 0 (λ e. omega arith),
-            bucket-kept text places count name k j,
-            latest-kept text places count name (bucketAt text places k) k (omega arith),
-          ) (t .links .older k j))
-          (rw (
-            getD-set-same before count (getD heads b 0) 0 (omega (arith, t .links .beforeLong)),
-            b-is,
-            latest-kept text places count name b count (omega arith),
-          ) (t .newest b (omega (arith, q))))
-
-      own : (k : ℕ) → k < count + 1 → numberIn (namesAt text (take (count + 1) (set places count name))) (nameAt text (getD (set places count name) k 0)) ≡ k
-      own = by-last _
-          (λ k j. let z : numberIn (namesAt text (take count places)) (nameAt text (getD places k 0)) ≡ k = t .links .own k j in
-          rw (grows, getD-set-other places count k name 0 (λ e. omega arith))
-          (number-stays (namesAt text (take count places)) (nameAt text name ∷ []) (nameAt text (getD places k 0)) (omega (arith, long few (t .links))) ∙ z))
-          (rw (grows, at-count) (number-new (namesAt text (take count places)) (nameAt text name) absent ∙ long few (t .links)))
-
-      newest : (b′ : ℕ) → b′ < 1024 → getD (set heads b (count + 1)) b′ 0 ≡ latest text (set places count name) b′ (count + 1)
-      unfolding latest
-      newest b′ j = rw (add-one count, b-is, latest-kept text places count name b′ count (omega arith)) (go (eqb b b′) refl)
-        where
-          go : (u : Bool) → eqb b b′ ≡ u → getD (set heads b (suc count)) b′ 0 ≡ cond u (suc count) (latest text places b′ count)
-          go true e = rw (← eqb-true b b′ e) (getD-set-same heads b (suc count) 0 (omega (arith, q, t .headsLong)))
-          go false e = rw (getD-set-other heads b b′ (suc count) 0 (λ d. eqb-false b b′ e (sym d))) (t .newest b′ j)
-
-      pub note-new : Noted text places before heads count name (set places count name) (set before count (getD heads b 0)) (set heads b (count + 1)) count
-      note-new =
-          let g : eqb count count ≡ true = eq-eqb count count refl in
-          record {
-            is = sym (long few (t .links)) ∙ sym absent;
-            known = rw (g, grows) (sym (noted-new (namesAt text (take count places)) (nameAt text name) absent));
-            table = rw g (record {
-              links = record {
-                placesLong = length-set places count name ∙ t .links .placesLong;
-                beforeLong = length-set before count (getD heads b 0) ∙ t .links .beforeLong;
-                older = older;
-                own = own;
-              };
-              headsLong = length-set heads b (count + 1) ∙ t .headsLong;
-              newest = newest;
-            });
-          }
-
-pub ruleset note-laws = (found-head, note-known, note-new)
+    go : (numberIn ns name ≡ length ns → (k : ℕ) → k < length ns → getD ns k [] ≡ name → ⊥)
+        → (t : Bool) → sameName n name ≡ t → cond t 0 (suc (numberIn ns name)) ≡ suc (length ns) → ⊥
+    go ih true q h = omega arith
+    go ih false q h = later ih q h k g e

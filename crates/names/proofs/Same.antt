@@ -2,7 +2,7 @@
 use mathlib.Core.Bool.{Bool, true, false, not}
 use mathlib.Core.List.{List, [], _∷_}
 use mathlib.Core.Path.{_≡_, refl, sym, ap, _∙_}
-use Prim.Native.Nat.{ℕ, zero, suc, _+_, _≤_, _<_}
+use Prim.Native.Nat.{ℕ, zero, suc, _+_, _-_, _≤_, _<_}
 use native.Mathlib.Numerals.{add-one}
 use native.Mathlib.Omega.{arith}
 use borrow.Author.Tests.{eq-eqb, ne-eqb, not-true, not-false}
@@ -77,3 +77,30 @@ module _ {text : List ℕ} {one other : ℕ} where
   alike-end {i} inv h q = rw (inv .left, no-name text i h) q
 
 pub ruleset same-laws = (begin-alike, alike-over, other-over, other-byte, byte-alike, alike-end, not-true, not-false)
+
+-- the bytes of a name, counted up to a place
+pub record Counted (text : List ℕ) (at i : ℕ) : Type 0 where
+  pub later : at ≤ i
+  pub left : length (nameAt text at) + at ≡ i + length (nameAt text i)
+
+module _ {text : List ℕ} {at : ℕ} where
+  pub begin-counted : Counted text at at
+  begin-counted = record { later = omega arith; left = omega arith }
+
+  module _ {i : ℕ} (inv : Counted text at i) where
+    pub counted-end : length text ≤ i → i - at ≡ length (nameAt text at)
+    counted-end h = let none : length (nameAt text at) + at ≡ i + 0 = rw (no-name text i h) at (inv .left) in omega (arith, inv .later)
+
+    module _ (h : i < length text) {on : Bool} (p : on ≡ nameByte (getD text i 0)) where
+      pub counted-over : on ≡ false → i - at ≡ length (nameAt text at)
+      counted-over e = let none : length (nameAt text at) + at ≡ i + 0 = rw (name-over text i h (sym p ∙ e)) at (inv .left) in omega (arith, inv .later)
+
+      pub counted-on : on ≡ true → Counted text at (i + 1)
+      counted-on e =
+          let more : length (nameAt text at) + at ≡ i + suc (length (nameAt text (i + 1))) = rw (name-on text i h (sym p ∙ e)) at (inv .left) in
+          record { later = omega (arith, inv .later); left = omega arith }
+
+    pub counted-less : at ≤ i
+    counted-less = inv .later
+
+pub ruleset counted-laws = (begin-counted, counted-end, counted-over, counted-on, counted-less, not-true, not-false)

@@ -35,6 +35,8 @@ fn texts() -> Vec<(&'static str, String)> {
     let filled = |piece: &str| format!("{}\n{QUESTION}", piece.repeat(65_535 - QUESTION.len()));
     vec![
         ("4,096 different names", names()),
+        ("4,095 names, alike in ten bits of their fingerprints", alike_names()),
+        ("3,969 names, each stem with 63 others beside it", wide_names()),
         ("few tokens, thousands of times", few_names()),
         ("arguments within arguments", nested()),
         ("one comment", filled("%")),
@@ -46,6 +48,22 @@ fn texts() -> Vec<(&'static str, String)> {
 /// Clauses of seven literals with four constants each, each constant a name of its own as long as there are new ones.
 fn names() -> String {
     facts(|number| format!("n{:x}", number % 4_095))
+}
+
+/// Names that would stand in one list of a table by fingerprints.
+fn alike_names() -> String {
+    let fingerprint = |name: &str| name.bytes().fold(0x811C_9DC5_u32, |sum, byte| (sum ^ u32::from(byte)).wrapping_mul(0x0100_0193));
+    let alike: Vec<String> = (0..).map(|number: u32| format!("a{number:x}")).filter(|name| fingerprint(name) % 1_024 == 7).take(4_095).collect();
+    facts(|number| alike[4_094 - number % 4_095].clone())
+}
+
+/// Names of three letters, then the first of them again and again: it is the last in the list of each of its stems.
+fn wide_names() -> String {
+    let letters: Vec<char> = ('a'..='z').chain('A'..='Z').chain('0'..='9').chain(['_']).collect();
+    facts(|number| {
+        let name = if number < 63 * 63 { number } else { 0 };
+        format!("a{}{}", letters[name / 63], letters[name % 63])
+    })
 }
 
 fn few_names() -> String {

@@ -1,6 +1,6 @@
 use borrow.Author.Needs.{needs}
-use Rattle.names.proofs.table.goes_on.Statement.{statement}
-use Rattle.names.proofs.table.goes_on.Tie as tie
+use Rattle.names.proofs.name.goes_on.Statement.{statement}
+use Rattle.names.proofs.name.goes_on.Tie as tie
 
 kind-of-requires : tie.Need-kind-of-requires
 kind-of-requires c κs = search needs

@@ -1,7 +1,7 @@
 use Rattle.names.proofs.Same.{ends-at, ends-after}
 use borrow.Author.Needs.{needs}
-use Rattle.names.proofs.table.ends.Statement.{statement}
-use Rattle.names.proofs.table.ends.Tie as tie
+use Rattle.names.proofs.name.ends.Statement.{statement}
+use Rattle.names.proofs.name.ends.Tie as tie
 
 ruleset all = (needs, ends-at, ends-after)
 

@@ -2,8 +2,8 @@ use borrow.Author.Needs.{needs}
 use Rattle.names.proofs.Same.{Alike, same-laws}
 use Prim.Native.Nat.{_-_}
 use lib.ListN.{length}
-use Rattle.names.proofs.table.same.Statement.{statement}
-use Rattle.names.proofs.table.same.Tie as tie
+use Rattle.names.proofs.name.same.Statement.{statement}
+use Rattle.names.proofs.name.same.Tie as tie
 
 ruleset all = (needs, same-laws)
 

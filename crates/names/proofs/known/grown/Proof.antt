@@ -1,7 +1,7 @@
-use Rattle.names.proofs.Counts.{grown-more, grown-same}
+use Rattle.names.proofs.Looking.{grown-more, grown-same}
 use borrow.Author.Needs.{needs}
-use Rattle.names.proofs.table.grown.Statement.{statement}
-use Rattle.names.proofs.table.grown.Tie as tie
+use Rattle.names.proofs.known.grown.Statement.{statement}
+use Rattle.names.proofs.known.grown.Tie as tie
 
 ruleset all = (needs, grown-more, grown-same)
 
