@@ -160,6 +160,24 @@ mod tests {
     }
 
     #[test]
+    fn a_clash_is_told_from_a_circle() {
+        // document 01's cases 6 and 5: two constants differ; a term swallows itself
+        let clash = [
+            0xC0000401, 0x80003001, 0x40000001, 0x40000002, 0x40000003, 0xC0000401, 0x8000B001, 0x40000001, 0x40000002, 0x40000004, 5, 2,
+            0x83223852, 10,
+        ];
+        let circle = [
+            0xC0000409, 0x80002001, 0x00000000, 0x40001001, 0x00000000, 0xC0000309, 0x8000A001, 0x00000000, 0x00000000, 5, 2, 0x31FE5519, 9,
+        ];
+        let refusal = |file: &[u32]| {
+            let refused = check_proof(file, 1, &[0x40000000], &mut [0; 8], &mut vec![0; WORK_WORDS]);
+            assert_eq!(refused, Outcome { status: refused.status, place: 0, proof: 0, disjuncts: 0, answer: 0, tries: 0 });
+            refused.status
+        };
+        assert_eq!((refusal(&clash), refusal(&circle)), (14, 20));
+    }
+
+    #[test]
     fn a_dead_clause_and_a_repeat_are_dropped() {
         // p or q (dead: no literal ~ q); p; p; ask p
         let mut file = vec![0xC0000202, 0x80000001, 0x80000002, 0xC0000101, 0x80000001, 0xC0000101, 0x80000001, 0xC0000101, 0x80008001];

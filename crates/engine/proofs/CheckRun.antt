@@ -12,6 +12,7 @@ use Rattle.table.proofs.AcceptedTable.{body-readable, question-start}
 use Rattle.table.proofs.Terms.{from-place}
 use Rattle.rules.specs.Setting.{base}
 use Rattle.rules.specs.Tableau.{start}
+use Rattle.rules.specs.Comparison.{a-clash, a-circle}
 use Rattle.rules.specs.Verdict.{malformed, not-allowed, not-unified, leaves-open}
 use Rattle.rules.specs.Machinery.Play.{Play, begin, Performed, perform, atEnd, onwards, checkFrom, check}
 use Rattle.unification.specs.State.{markAt, ClauseAt, bindingsOf}
@@ -93,8 +94,8 @@ module _ {f m : List ℕ} {bound : ℕ} {offered : List ℕ} {place : Place} {i 
     refuse m′ (On next) k n = absurd (n next refl)
     refuse m′ Malformed k n = record { why = malformed; stops = same-step ∙ rw (k .0, k .1); number = refl }
     refuse m′ NotAllowed k n = record { why = not-allowed; stops = same-step ∙ rw (k .0, k .1); number = refl }
-    refuse m′ Clashes k n = record { why = not-unified; stops = same-step ∙ rw k; number = refl }
-    refuse m′ Circular k n = record { why = not-unified; stops = same-step ∙ rw k; number = refl }
+    refuse m′ Clashes k n = record { why = not-unified a-clash; stops = same-step ∙ rw k; number = refl }
+    refuse m′ Circular k n = record { why = not-unified a-circle; stops = same-step ∙ rw k; number = refl }
 
     pub run-refuses : {m′ : List ℕ} (j : Judged) → Checked f m m′ bound place (getD offered i 0) j → ((next : Place) → j ≡ On next → ⊥) → {status : ℕ} → status ≡ statusFor j
         → RefusedAs f bound offered status (place .steps)

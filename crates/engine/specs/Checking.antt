@@ -8,6 +8,7 @@ use Rattle.words.specs.Steps.{stepOf}
 use Rattle.words.specs.declared.Step.{Step}
 use Rattle.table.specs.File.{judge, tableIn}
 use Rattle.rules.specs.Setting.{base}
+use Rattle.rules.specs.Comparison.{a-clash, a-circle}
 use Rattle.rules.specs.Verdict.{Refusal, malformed, not-allowed, not-unified, statusOf}
 use Rattle.rules.specs.Machinery.Play.{Play, Performed, goes-on, not-possible, clashes, circular, perform, refusal, passed, stopped, check}
 use Rattle.unification.specs.State.{markAt, literalAt, parentAt}
@@ -45,8 +46,8 @@ abbrev pub statusFor : Judged → ℕ
 statusFor (On place) = 0
 statusFor Malformed = statusOf malformed
 statusFor NotAllowed = statusOf not-allowed
-statusFor Clashes = statusOf not-unified
-statusFor Circular = statusOf not-unified
+statusFor Clashes = statusOf (not-unified a-clash)
+statusFor Circular = statusOf (not-unified a-circle)
 
 -- the tableau goes on at a place
 pub record Moved (f m m′ : List ℕ) (place next : Place) : Type 0 where

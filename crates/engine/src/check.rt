@@ -23,11 +23,13 @@ pub const MALFORMED: u32 = 12;
 
 pub const NOT_ALLOWED: u32 = 13;
 
-pub const NOT_UNIFIED: u32 = 14;
+pub const CLASHING: u32 = 14;
 
 pub const LEAVES_OPEN: u32 = 15;
 
-// What becomes of a step: the tableau goes on, or the step is malformed, not allowed, or its pair does not unify with what is bound.
+pub const CIRCULAR: u32 = 20;
+
+// What becomes of a step: the tableau goes on, or the step is malformed, not allowed, or its pair does not unify with what is bound: two symbols differ, or a variable would hold itself.
 pub enum Judged {
     On(Place),
     Malformed,
@@ -171,8 +173,8 @@ fn status(judged: Judged) -> u32
         Judged::On(_) => 0,
         Judged::Malformed => MALFORMED,
         Judged::NotAllowed => NOT_ALLOWED,
-        Judged::Clashes => NOT_UNIFIED,
-        Judged::Circular => NOT_UNIFIED,
+        Judged::Clashes => CLASHING,
+        Judged::Circular => CIRCULAR,
     }
 }
 

@@ -7,6 +7,7 @@ use Rattle.rules.proofs.Cases.{played}
 use Rattle.hukolearu.specs.Door.{firstFault, behind}
 use Rattle.hukolearu.specs.Calls.{answered, checkGiven, foundGiven, searchGiven, searchCall, checkCall}
 use Rattle.hukolearu.specs.Cases as Cases
+use Rattle.hukolearu.specs.ReasonCases.{ReasonCases}
 
 unfoldable pub called : Unit {0}
 unfolding played firstFault behind answered checkGiven foundGiven searchGiven searchCall checkCall
@@ -19,6 +20,10 @@ starred-cases = refl
 pub further-cases : Cases.FurtherCases
 unfolding called
 further-cases = refl
+
+pub reason-cases : ReasonCases
+unfolding called
+reason-cases = refl
 
 pub accepted-cases : Cases.AcceptedCases
 unfolding called

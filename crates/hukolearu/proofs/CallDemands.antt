@@ -20,6 +20,7 @@ use Rattle.rules.specs.Tableau.{Tableau, start, Closed}
 use Rattle.rules.specs.Order.{Ending, found, nothing, Searched, First}
 use Rattle.rules.specs.Truth.{Interpretation, AllNegative, AllHold, TrueAnswer}
 use Rattle.rules.specs.Growing.{Larger, moved}
+use Rattle.rules.specs.Comparison.{a-clash, a-circle}
 use Rattle.rules.specs.Verdict.{Refusal, malformed, not-allowed, not-unified, leaves-open, statusOf, CheckVerdict, accepted, refused, Checks, SearchVerdict, finds, finds-none, runs-out, Answers}
 use Rattle.rules.specs.Machinery.Play.{Play, Checking, passed, check, checked, searchFor, answerOf, disjunctsOf}
 use Rattle.rules.proofs.Checker.{accepted-closed, closed-accepted}
@@ -133,8 +134,10 @@ unaccepted malformed (inl z) = omega arith
 unaccepted malformed (inr z) = omega arith
 unaccepted not-allowed (inl z) = omega arith
 unaccepted not-allowed (inr z) = omega arith
-unaccepted not-unified (inl z) = omega arith
-unaccepted not-unified (inr z) = omega arith
+unaccepted (not-unified a-clash) (inl z) = omega arith
+unaccepted (not-unified a-clash) (inr z) = omega arith
+unaccepted (not-unified a-circle) (inl z) = omega arith
+unaccepted (not-unified a-circle) (inr z) = omega arith
 unaccepted leaves-open (inl z) = omega arith
 unaccepted leaves-open (inr z) = omega arith
 

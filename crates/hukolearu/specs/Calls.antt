@@ -49,7 +49,7 @@ unfoldable pub answered : Table → ℕ → List ℕ → ℕ → ℕ → Play �
 answered t steps proof tries room p =
     cond (leb (length (answerOf t p)) (roomOf room)) (granted steps proof (disjunctsOf p) (answerOf t p) tries) (refused Status.answerTooLong 0 tries)
 
--- the checker: 12 to 15 with the place of the step; on 0 the step count as proof words, with tries 0, and no proof is written
+-- the checker: 12 to 15 or 20 with the place of the step; on 0 the step count as proof words, with tries 0, and no proof is written
 unfoldable pub checkGiven : Table → ℕ → ℕ → Checking → Given
 checkGiven t steps room (passed p) = answered t steps [] 0 room p
 checkGiven t steps room (stopped why place) = refused (statusOf why) place 0

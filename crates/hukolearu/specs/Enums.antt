@@ -16,7 +16,7 @@ byEnding Found budget left found = found
 byEnding Nothing budget left found = refused Status.noneFound 0 (budget - left)
 byEnding Out budget left found = refused Status.ranOut 0 budget
 
--- what the checker decided: so many steps accepted; 12 to 15 with the place
+-- what the checker decided: so many steps accepted; 12 to 15 or 20 with the place
 abbrev pub byVerdict : Verdict → (ℕ → Given) → Given
 byVerdict (Accepted steps) accepted = accepted steps
 byVerdict (Refused status place) accepted = refused status place 0

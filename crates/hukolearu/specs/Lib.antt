@@ -6,4 +6,5 @@ pub mod CallDemands
 pub mod Enums
 pub mod Telling
 pub mod Cases
+pub mod ReasonCases
 pub mod Typed

@@ -1,4 +1,4 @@
--- Document 01's questions to try, 1 to 11, and one question more, as one equation between lists, closed by computation over files of words.
+-- Document 01's questions to try, 1 to 11, cases 5 and 8 as checks (order 5), and one question more, as one equation between lists, closed by computation over files of words.
 use lib.Dec.{eqb}
 use lib.ListN.{length}
 use mathlib.Core.Bool.{cond}
@@ -145,6 +145,8 @@ questions =
     ∷ record { file = mat-or-eve; call = checking 2 (0x40000000 ∷ []) }
     ∷ record { file = mat-or-eve; call = checking 2 (0x80000000 ∷ []) }
     ∷ record { file = other-time; call = checking 1 (0x40000000 ∷ []) }
+    ∷ record { file = own-mother; call = checking 1 (0x40000000 ∷ []) }
+    ∷ record { file = three-terms; call = checking 1 (0x40000000 ∷ []) }
     ∷ record { file = all-at-once; call = search 5 ample }
     ∷ record { file = all-at-once; call = search 4 ample }
     ∷ []
@@ -185,6 +187,8 @@ expected =
     ∷ refusedAt 13 2
     ∷ refusedAt 15 1
     ∷ refusedAt 12 0
+    ∷ refusedAt 14 0
+    ∷ refusedAt 20 0
     ∷ refusedAt 14 0
     -- p(X,f(Y)) and q(X), or p(g(Y),X) and q(g(Y))
     ∷ record {

@@ -1,7 +1,7 @@
 -- The checker comes to the one verdict that document 01 gives, and accepts exactly the closed tableaux.
 use mathlib.Core.List.{List, [], _∷_}
 use mathlib.Core.Option.{none, some}
-use mathlib.Core.Path.{_≡_, refl}
+use mathlib.Core.Path.{_≡_, refl, ap}
 use Prim.Native.Nat.{ℕ, suc}
 use Rattle.words.specs.declared.Step.{Step}
 use Rattle.words.specs.declared.Step.the-variants.{Reduction, Extension, Malformed}
@@ -9,10 +9,12 @@ use Rattle.table.specs.Syntax.{var}
 use Rattle.rules.specs.Substitution.{Substitution, Solves, Unifiable}
 use Rattle.rules.specs.Setting.{Setting}
 use Rattle.rules.specs.Tableau.{Leaf, Tableau, start, stepped, Made, as-it-stands, by-step, Closed}
-use Rattle.rules.specs.Verdict.{CheckVerdict, accepted, refused, Checks, no-leaf, some-leaf, no-step, no-tableau, no-unifier, taken}
+use Rattle.rules.specs.Comparison.{Reason}
+use Rattle.rules.specs.Verdict.{not-unified, CheckVerdict, accepted, refused, Checks, no-leaf, some-leaf, no-step, no-tableau, no-unifier, taken}
 use Rattle.rules.specs.Machinery.Play.{Play, begin, Performed, goes-on, not-possible, clashes, circular, perform, Checking, passed, stopped, atEnd, refusal, onwards, checkFrom, check, checked}
 use Rattle.rules.proofs.System.Clash.{clash}
 use Rattle.rules.proofs.Candidates.{malformed-not-taken}
+use Rattle.rules.proofs.Comparison.{one-reason-of-the-newest, newest-not-unifiable}
 use Rattle.rules.proofs.Play.{Sound, sound-begin, unifiable, stepped-one-more, Told, told}
 
 module _ (S : Setting) where
@@ -65,11 +67,13 @@ module _ (S : Setting) where
   one-verdict (no-tableau n e) (taken f v d) = clash (cc)
   one-verdict {x} (no-unifier e u) no-step = absurd (malformed-nothing x e)
   one-verdict (no-unifier e u) (no-tableau m f) = clash (cc)
-  one-verdict (no-unifier e u) (no-unifier f v) = refl
-  one-verdict (no-unifier {y = y} e u) (taken {y = z} f v d) = let h : z ≡ y = cc in absurd (u (rw h at v))
+  one-verdict {place = place} (no-unifier {y = y} {r = r} e u) (no-unifier {y = z} {r = q} f v) =
+      let h : z ≡ y = cc in
+      ap (λ (w : Reason). refused (not-unified w) place) (one-reason-of-the-newest (y .pairs) r q u (rw h at v))
+  one-verdict (no-unifier {y = y} e u) (taken {y = z} f v d) = let h : z ≡ y = cc in absurd (newest-not-unifiable u (rw h at v))
   one-verdict {x} (taken e u c) no-step = absurd (malformed-nothing x e)
   one-verdict (taken e u c) (no-tableau m f) = clash (cc)
-  one-verdict (taken {y = y} e u c) (no-unifier {y = z} f v) = let h : y ≡ z = cc in absurd (v (rw h at u))
+  one-verdict (taken {y = y} e u c) (no-unifier {y = z} f v) = let h : y ≡ z = cc in absurd (newest-not-unifiable v (rw h at u))
   one-verdict (taken {y = y} e u c) (taken {y = z} f v d) = let h : z ≡ y = cc in one-verdict c (rw h at d)
 
   -- a solution of the pairs of a later tableau solves those of an earlier one

@@ -16,6 +16,8 @@ pub mod Distinct
 pub mod Answer
 pub mod Variables
 pub mod Reading
+pub mod Comparison
+pub mod Compared
 pub mod Play
 pub mod Checker
 pub mod Search

@@ -5,11 +5,13 @@ use mathlib.Core.Path.{_≡_, refl, sym, ap}
 use Rattle.words.specs.declared.Step.{Step}
 use Rattle.table.specs.Syntax.{Table}
 use Rattle.rules.specs.Substitution.{Pair, Unifiable, MostGeneral}
+use Rattle.rules.specs.Comparison.{a-clash, a-circle, NewestFails}
 use Rattle.rules.specs.Machinery.Unify.{solution, Unified, made, clash, circle, unify}
 use Rattle.rules.specs.Setting.{Setting}
 use Rattle.rules.specs.Tableau.{Tableau, start, stepped, closing}
 use Rattle.rules.specs.Machinery.Play.{Play, begin, Performed, goes-on, not-possible, clashes, circular, boundBy, newest, performed, perform}
-use Rattle.rules.proofs.Unify.{Stands, stands-general, stands-unifiable, stands-none, stands-more, clash-not-unifiable, circle-not-unifiable}
+use Rattle.rules.proofs.Unify.{Stands, stands-general, stands-unifiable, stands-none, stands-more}
+use Rattle.rules.proofs.Compared.{clash-newest, circle-newest}
 use Rattle.rules.proofs.Steps.{Does, reduces, extends, does}
 
 -- The bindings stand for the closed pairs: a substitution satisfies them exactly if it makes the pairs equal.
@@ -40,15 +42,15 @@ module _ (S : Setting) (p : Play) (s : Step) where
   abbrev pub Told : Performed → Type 0
   Told (goes-on q) = (stepped S (p .tableau) s ≡ some (q .tableau)) × Sound q
   Told not-possible = stepped S (p .tableau) s ≡ none
-  Told clashes = (y : Tableau) × (stepped S (p .tableau) s ≡ some y) × (¬ Unifiable (y .pairs))
-  Told circular = (y : Tableau) × (stepped S (p .tableau) s ≡ some y) × (¬ Unifiable (y .pairs))
+  Told clashes = (y : Tableau) × (stepped S (p .tableau) s ≡ some y) × NewestFails (y .pairs) a-clash
+  Told circular = (y : Tableau) × (stepped S (p .tableau) s ≡ some y) × NewestFails (y .pairs) a-circle
 
   module _ (h : Sound p) (y : Tableau) (e : stepped S (p .tableau) s ≡ some y) (a : Pair) (f : y .pairs ≡ a ∷ p .tableau .pairs) where
     told-bound : (r : Unified) → unify (p .bindings) (a .left) (a .right) ≡ r → Told (boundBy y r)
     unfolding boundBy
     told-bound (made bs) u = (e, rw f (stands-more (p .bindings) (p .tableau .pairs) h a u))
-    told-bound clash u = (y, e, rw f (clash-not-unifiable (p .bindings) (p .tableau .pairs) h a u))
-    told-bound circle u = (y, e, rw f (circle-not-unifiable (p .bindings) (p .tableau .pairs) h a u))
+    told-bound clash u = (y, e, rw f (clash-newest (p .bindings) (p .tableau .pairs) h a u))
+    told-bound circle u = (y, e, rw f (circle-newest (p .bindings) (p .tableau .pairs) h a u))
 
     told-newest : (ps : List Pair) → ps ≡ a ∷ p .tableau .pairs → Told (newest (p .bindings) y ps)
     unfolding newest

@@ -30,6 +30,7 @@ use Rattle.rules.proofs.Lists.{none-some, length-others}
 use Rattle.rules.proofs.Steps.{Does, reduces, extends, does}
 use Rattle.rules.proofs.Every.{some-same, Ordered, _ahead_, all-member}
 use Rattle.rules.proofs.Candidates.{candidate-steps, steps-candidate, candidates-ordered, no-leaf-no-step}
+use Rattle.rules.proofs.Comparison.{newest-not-unifiable}
 use Rattle.rules.proofs.Play.{Sound, sound-begin, unifiable, Told, told}
 use Rattle.rules.proofs.Checker.{earlier-solved}
 use Rattle.rules.proofs.Variables.{question-within}
@@ -63,8 +64,8 @@ module _ (S : Setting) where
   unfolding afterwards
   none-known p s (goes-on r) h f e u = clash (cc)
   none-known p s not-possible h f e u = clash (cc)
-  none-known p s clashes h {y} f e u = let k : y ≡ h .0 = cc (h .1) in h .2 (rw k at u)
-  none-known p s circular h {y} f e u = let k : y ≡ h .0 = cc (h .1) in h .2 (rw k at u)
+  none-known p s clashes h {y} f e u = let k : y ≡ h .0 = cc (h .1) in newest-not-unifiable (h .2) (rw k at u)
+  none-known p s circular h {y} f e u = let k : y ≡ h .0 = cc (h .1) in newest-not-unifiable (h .2) (rw k at u)
 
   -- where the rules allow a step, what it comes to depends on its pairs alone
   tried-known : (p : Play) (s : Step) {y : Tableau} → Sound p → stepped S (p .tableau) s ≡ some y → afterwards (perform S p s) ≡ none

@@ -131,14 +131,6 @@ module _ (bs : Bindings) (ps : List Pair) (stands : Stands bs ps) (p : Pair) whe
   unfolding Solves
   unifiable-made u = answer .complete (u .by) (stands .solutions (u .by) .1 (u .solves .1)) (u .solves .0)
 
-  pub clash-not-unifiable : unify bs (p .left) (p .right) ≡ clash → ¬ Unifiable (p ∷ ps)
-  unfolding Solves
-  clash-not-unifiable e = λ u. answer .clashes e (u .by) (stands .solutions (u .by) .1 (u .solves .1)) (u .solves .0)
-
-  pub circle-not-unifiable : unify bs (p .left) (p .right) ≡ circle → ¬ Unifiable (p ∷ ps)
-  unfolding Solves
-  circle-not-unifiable e = λ u. answer .circles e (u .by) (stands .solutions (u .by) .1 (u .solves .1)) (u .solves .0)
-
 -- pairs unified one after another, from no bindings
 pub pairs-stand : (ps : List Pair) (bs : Bindings) → unifyPairs [] ps ≡ made bs → Stands bs ps
 unfolding Satisfies

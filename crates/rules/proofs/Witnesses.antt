@@ -26,10 +26,13 @@ use Rattle.rules.specs.Reordered.{Reordered, empty, next, swapped, in-tu
 use Rattle.rules.specs.Evidence.{Valuation, clauseTrue, InstanceOf, InstancesTrue, QuestionsTrue, Ground, Grounding, groundInstance, Evidence, leafNeeds, mostOthers, enough, turned}
 use Rattle.rules.specs.Evidence as Evidence
 use Rattle.rules.specs.Verdict.{Answers, finds-none, runs-out}
+use Rattle.rules.specs.Comparison.{a-clash, a-circle, Fails}
+use Rattle.rules.specs.Machinery.Unify as Unify
 use Rattle.rules.specs.Machinery.Play.{Play, Checking, passed, stopped, check, answerOf, disjunctsOf}
 use Rattle.rules.specs.Witnesses as W
 use Rattle.rules.proofs.System.Clash.{clash}
 use Rattle.rules.proofs.Cases.{played}
+use Rattle.rules.proofs.Compared.{fails-exactly, comparison-says}
 use Rattle.rules.proofs.Checker.{checker-says}
 use Rattle.rules.proofs.Demands.{said, closed-passed, none-exactly, found-is-first, found-is-accepted, accepted-has-answer, one-first}
 use Rattle.rules.proofs.Reading.{read-once}
@@ -206,6 +209,25 @@ generality = (
       let wrong : _≡_ {A = Term Variable} (var x) (app 1 nil) = m .general var tt .1 x in clash (cc),
 )
 
+-- comparison
+clashes : (s t : Term Variable) → Unify.unify [] s t ≡ Unify.clash → Fails s t a-clash
+clashes s t e = comparison-says s t .0 .0 e
+
+circles : (s t : Term Variable) → Unify.unify [] s t ≡ Unify.circle → Fails s t a-circle
+circles s t e = comparison-says s t .1 .0 e
+
+pub comparisons : W.Comparisons
+unfolding played Solves
+comparisons = record {
+  clash-first = clashes _ _ refl;
+  circle-first = circles _ _ refl;
+  clash-by-binding = clashes _ _ refl;
+  circle-by-binding = circles _ _ refl;
+  two-arities = clashes _ _ refl;
+  deeper-first = circles _ _ refl;
+  crosswise = λ r h. fails-exactly _ _ .0 (r, h) (record { by = λ x. W.mat; solves = (refl, tt) });
+}
+
 -- tableaux
 pub case-one-closes : W.CaseOneCloses
 unfolding played
@@ -222,6 +244,7 @@ every-refusal = record {
   thirteen = checker-says (base W.season 2) _;
   fourteen = checker-says (base (W.asked (W.constant 3)) 1) _;
   fifteen = checker-says (base W.season 2) _;
+  twenty = checker-says (base W.mothers 1) _;
 }
 
 pub every-verdict : W.EveryVerdict

@@ -4,6 +4,8 @@ pub mod Tableau
 pub mod Order
 pub mod Answer
 pub mod Truth
+pub mod Comparison
+pub mod ComparisonPromises
 pub mod Verdict
 pub mod System
 pub mod Machinery

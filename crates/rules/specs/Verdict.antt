@@ -1,4 +1,4 @@
--- The verdicts (document 01, "What comes back"): what the checker says of a list of steps, what the search says within a budget,
+-- The verdicts (document 01, "What comes back", and order 5): what the checker says of a list of steps, what the search says within a budget,
 -- and the answer that goes with a closed tableau. No algorithm.
 use lib.ListN.{length}
 use mathlib.Core.List.{List, [], _∷_}
@@ -10,6 +10,7 @@ use Rattle.words.specs.declared.Step.{Step}
 use Rattle.words.specs.declared.Step.the-variants.{Malformed}
 use Rattle.table.specs.Syntax.{Table}
 use Rattle.rules.specs.Substitution.{Substitution, Unifiable, MostGeneral}
+use Rattle.rules.specs.Comparison.{Reason, a-clash, a-circle, NewestFails}
 use Rattle.rules.specs.Setting.{Setting}
 use Rattle.rules.specs.Tableau.{Leaf, Tableau, start, stepped}
 use Rattle.rules.specs.Order.{Ending, found, nothing, Searched}
@@ -19,14 +20,15 @@ use Rattle.rules.specs.Answer.{answerWords}
 pub data Refusal : Type 0 where
   malformed : Refusal
   not-allowed : Refusal
-  not-unified : Refusal
+  not-unified : Reason → Refusal
   leaves-open : Refusal
 
 abbrev pub statusOf : Refusal → ℕ
 statusOf malformed = 12
 statusOf not-allowed = 13
-statusOf not-unified = 14
+statusOf (not-unified a-clash) = 14
 statusOf leaves-open = 15
+statusOf (not-unified a-circle) = 20
 
 pub data CheckVerdict : Type 0 where
   -- the closed tableau that was made
@@ -45,9 +47,9 @@ pub data Checks (S : Setting) : Tableau → ℕ → List Step → CheckVerdict �
   -- 13: well formed, but no leaf open, no such ancestor, clause or literal, pair not fitting, or extensions over the bound
   no-tableau : {x : Tableau} {place : ℕ} {s : Step} {ss : List Step} → s ≢ Malformed → stepped S x s ≡ none
       → Checks S x place (s ∷ ss) (refused not-allowed place)
-  -- 14: pair doesn't unify with what is bound
-  no-unifier : {x y : Tableau} {place : ℕ} {s : Step} {ss : List Step} → stepped S x s ≡ some y → ¬ Unifiable (y .pairs)
-      → Checks S x place (s ∷ ss) (refused not-unified place)
+  -- 14 and 20: pair doesn't unify with what is bound; the checker passes the reason on
+  no-unifier : {x y : Tableau} {place : ℕ} {s : Step} {ss : List Step} {r : Reason} → stepped S x s ≡ some y → NewestFails (y .pairs) r
+      → Checks S x place (s ∷ ss) (refused (not-unified r) place)
   taken : {x y : Tableau} {place : ℕ} {s : Step} {ss : List Step} {c : CheckVerdict} → stepped S x s ≡ some y → Unifiable (y .pairs)
       → Checks S y (suc place) ss c → Checks S x place (s ∷ ss) c
 

@@ -11,6 +11,7 @@ use Rattle.words.specs.declared.Step.the-variants.{Reduction, Extension, Malfor
 use Rattle.table.specs.Limits.{Within, Each}
 use Rattle.table.specs.Syntax.{Term, var, app, nil, _then_, Literal, Clause, Table}
 use Rattle.rules.specs.Substitution.{Variable, Unifiable, MostGeneral}
+use Rattle.rules.specs.Comparison.{Reason, a-clash, a-circle, Fails}
 use Rattle.rules.specs.Setting.{base}
 use Rattle.rules.specs.Tableau.{Tableau, start, Closed}
 use Rattle.rules.specs.Order.{found, nothing, Before, Searched}
@@ -64,6 +65,16 @@ stated = record { variables = 0; literals = matinee ∷ [] }
 
 abbrev pub asked : Term ℕ → Table
 asked slot = record { clauses = stated ∷ []; question = record { variables = 0; literals = played true slot ∷ [] } }
+
+-- case 5: parent(X,mother(X)); ask parent(Y,Y)
+abbrev pub mothers : Table
+mothers =
+    record {
+      clauses =
+          record { variables = 1; literals = record { negative = false; predicate = 1; arguments = var 0 then app 1 (var 0 then nil) then nil } ∷ [] }
+          ∷ [];
+      question = record { variables = 1; literals = record { negative = true; predicate = 1; arguments = var 0 then var 0 then nil } ∷ [] };
+    }
 
 -- TRUTH
 -- For every n ≥ 1 there is an interpretation, from any tables within its domain; and an assignment, from any elements.
@@ -147,6 +158,34 @@ Unifications x =
 abbrev pub Generality : Type 0
 Generality = MostGeneral var [] × ¬ MostGeneral (λ x. app 1 nil) []
 
+-- COMPARISON
+-- Terms of two arguments, over two constants, variables, and a term that holds the first variable.
+abbrev pub two : Term Variable → Term Variable → Term Variable
+two s t = app 1 (s then t then nil)
+
+abbrev pub mat : Term Variable
+mat = app 2 nil
+
+abbrev pub eve : Term Variable
+eve = app 3 nil
+
+abbrev pub unknown : ℕ → Term Variable
+unknown n = var (record { copy = 0; number = n })
+
+abbrev pub holding : Term Variable
+holding = app 4 (unknown 0 then nil)
+
+-- The first pair decides: a clash before a circle, and a circle before a clash; each through what the comparison itself has bound; one symbol at
+-- two arities is a clash; an argument is looked into before the next one. Variables that stand crosswise fail for no reason.
+pub record Comparisons : Type 0 where
+  pub clash-first : Fails (two mat (unknown 0)) (two eve holding) a-clash
+  pub circle-first : Fails (two (unknown 0) mat) (two holding eve) a-circle
+  pub clash-by-binding : Fails (two (unknown 1) (unknown 1)) (two mat eve) a-clash
+  pub circle-by-binding : Fails (two (unknown 1) (unknown 1)) (two (unknown 0) holding) a-circle
+  pub two-arities : Fails (app 1 nil) (two mat eve) a-clash
+  pub deeper-first : Fails (two (two mat (unknown 0)) mat) (two (two mat holding) eve) a-circle
+  pub crosswise : (r : Reason) → ¬ Fails (two (unknown 0) (unknown 1)) (two (unknown 1) (unknown 0)) r
+
 -- TABLEAUX
 -- The example's proof is closed with two extensions, and accepted; with one, nothing is closed.
 abbrev pub CaseOneCloses : Type 0
@@ -157,8 +196,9 @@ CaseOneCloses =
 pub record EveryRefusal : Type 0 where
   pub twelve : Checks (base season 2) (start season) 0 (Malformed ∷ []) (refused malformed 0)
   pub thirteen : Checks (base season 2) (start season) 0 (proof ++ (Reduction 1 ∷ [])) (refused not-allowed 2)
-  pub fourteen : Checks (base (asked (constant 3)) 1) (start (asked (constant 3))) 0 (Extension 0 0 ∷ []) (refused not-unified 0)
+  pub fourteen : Checks (base (asked (constant 3)) 1) (start (asked (constant 3))) 0 (Extension 0 0 ∷ []) (refused (not-unified a-clash) 0)
   pub fifteen : Checks (base season 2) (start season) 0 (Extension 0 0 ∷ []) (refused leaves-open 1)
+  pub twenty : Checks (base mothers 1) (start mothers) 0 (Extension 0 0 ∷ []) (refused (not-unified a-circle) 0)
 
 -- So has the search, and the stated order both its endings.
 pub record EveryVerdict : Type 0 where

@@ -1,12 +1,13 @@
 //! The terms of all copies, and which of them have been made equal.
 //!
-//! Nodes that must be equal form a class (union-find with undo). A class that holds an application
-//! shows one at its root; a class of variables alone is still free. Whatever the terms, making two
-//! equal costs at most one merge for each node, and one walk through the nodes to see that no class holds itself.
+//! Nodes that are equal form a class (union-find with undo). A class that holds an application
+//! shows one at its root; a class of variables alone is still free. Two applications join their classes when their
+//! arguments have been made equal, so a pair is looked into once; whatever the terms, making two equal costs at most one
+//! merge for each node, and one walk through the nodes for each variable that meets an application.
 
 use crate::syntax::Term;
 use crate::word::Symbol;
-use std::collections::HashMap;
+use std::collections::HashSet;
 
 #[derive(Clone, Copy, Debug, PartialEq, Eq, Hash)]
 pub struct Node(usize);
@@ -33,15 +34,19 @@ pub struct Mark {
     merges: usize,
 }
 
-enum Visit {
-    Enter(Node),
-    Leave(Node),
+/// Why finite terms cannot make a pair equal.
+#[derive(Clone, Copy, Debug, PartialEq, Eq)]
+pub enum Unequal {
+    /// Two different symbols, or arities.
+    Clash,
+    /// A variable against a larger term that holds it.
+    Circle,
 }
 
-#[derive(PartialEq)]
-enum Progress {
-    Inside,
-    Finished,
+enum Task {
+    Compare(Node, Node),
+    /// Two applications whose arguments are now equal.
+    Join(Node, Node),
 }
 
 impl Equations {
@@ -81,27 +86,38 @@ impl Equations {
         self.sizes.truncate(mark.nodes);
     }
 
-    /// Makes the pairs equal beside everything made equal before, and says whether finite terms can do so.
-    /// Where they cannot, the caller returns to an earlier moment.
-    #[must_use]
-    pub fn equate(&mut self, mut pairs: Vec<(Node, Node)>) -> bool {
-        let mark = self.mark();
-        while let Some((left, right)) = pairs.pop() {
-            let (left, right) = (self.root(left), self.root(right));
-            if left == right {
-                continue;
+    /// Makes the pairs equal beside everything made equal before, from left to right and depth first, or says what is wrong
+    /// with the first pair that cannot be. The caller then returns to an earlier moment.
+    pub fn equate(&mut self, pairs: impl DoubleEndedIterator<Item = (Node, Node)>) -> Result<(), Unequal> {
+        let mut tasks: Vec<Task> = pairs.rev().map(|(left, right)| Task::Compare(left, right)).collect();
+        while let Some(task) = tasks.pop() {
+            match task {
+                Task::Join(left, right) => self.merge(self.root(left), self.root(right)),
+                Task::Compare(left, right) => self.compare(self.root(left), self.root(right), &mut tasks)?,
             }
-            if let (Shape::Application(f, xs), Shape::Application(g, ys)) =
-                (&self.shapes[left.0], &self.shapes[right.0])
-            {
-                if f != g {
-                    return false;
-                }
-                pairs.extend(xs.iter().copied().zip(ys.iter().copied()));
-            }
-            self.merge(left, right);
         }
-        self.finite(&self.merged[mark.merges..])
+        Ok(())
+    }
+
+    fn compare(&mut self, left: Node, right: Node, tasks: &mut Vec<Task>) -> Result<(), Unequal> {
+        if left == right {
+            return Ok(());
+        }
+        match (&self.shapes[left.0], &self.shapes[right.0]) {
+            (Shape::Application(f, xs), Shape::Application(g, ys)) => {
+                if f != g {
+                    return Err(Unequal::Clash);
+                }
+                tasks.push(Task::Join(left, right));
+                tasks.extend(xs.iter().zip(ys).rev().map(|(&x, &y)| Task::Compare(x, y)));
+                return Ok(());
+            }
+            (Shape::Free, Shape::Application(..)) if self.holds(right, left) => return Err(Unequal::Circle),
+            (Shape::Application(..), Shape::Free) if self.holds(left, right) => return Err(Unequal::Circle),
+            _ => {}
+        }
+        self.merge(left, right);
+        Ok(())
     }
 
     fn add(&mut self, shape: Shape) -> Node {
@@ -132,30 +148,21 @@ impl Equations {
         rank(left) > rank(right)
     }
 
-    /// Whether no class reachable from these nodes holds itself.
-    fn finite(&self, from: &[Node]) -> bool {
-        let mut progress: HashMap<Node, Progress> = HashMap::new();
-        let mut visits: Vec<Visit> = from.iter().copied().map(Visit::Enter).collect();
-        while let Some(visit) = visits.pop() {
-            match visit {
-                Visit::Leave(root) => {
-                    progress.insert(root, Progress::Finished);
-                }
-                Visit::Enter(node) => {
-                    let (root, shape) = self.look_up(node);
-                    match progress.get(&root) {
-                        Some(Progress::Inside) => return false,
-                        Some(Progress::Finished) => continue,
-                        None => {}
-                    }
-                    if let Shape::Application(_, arguments) = shape {
-                        progress.insert(root, Progress::Inside);
-                        visits.push(Visit::Leave(root));
-                        visits.extend(arguments.iter().copied().map(Visit::Enter));
-                    }
-                }
+    /// Whether the variable's class is within the term's.
+    fn holds(&self, term: Node, variable: Node) -> bool {
+        let mut seen = HashSet::new();
+        let mut pending = vec![term];
+        while let Some(node) = pending.pop() {
+            let (root, shape) = self.look_up(node);
+            if root == variable {
+                return true;
+            }
+            if let Shape::Application(_, arguments) = shape
+                && seen.insert(root)
+            {
+                pending.extend(arguments);
             }
         }
-        true
+        false
     }
 }

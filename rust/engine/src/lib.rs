@@ -16,6 +16,7 @@ pub mod syntax;
 pub mod tableau;
 pub mod word;
 
+pub use equations::Unequal;
 pub use report::{Report, Status};
 use search::{End, Search};
 use std::ops::Range;
@@ -111,7 +112,8 @@ fn check_table(table: &Table, offered: &[u32], bound: u32, answer: &mut [u32]) -
         match tableau.perform(step) {
             Ok(()) => {}
             Err(Obstacle::NotAllowed) => return Report::at(Status::StepNotAllowed, place),
-            Err(Obstacle::NotUnifiable) => return Report::at(Status::NotUnifiable, place),
+            Err(Obstacle::Unequal(Unequal::Clash)) => return Report::at(Status::Clash, place),
+            Err(Obstacle::Unequal(Unequal::Circle)) => return Report::at(Status::Circle, place),
         }
     }
     if !tableau.closed() {

@@ -16,9 +16,10 @@ pub enum Status {
     RanOut = 11,
     MalformedStep = 12,
     StepNotAllowed = 13,
-    NotUnifiable = 14,
+    Clash = 14,
     LeavesOpen = 15,
     AnswerTooLong = 16,
+    Circle = 20,
 }
 
 /// Numbers that the status does not name are 0.

@@ -1,6 +1,6 @@
 //! A tableau: its open leaves, and the steps that treat the leftmost of them.
 
-use crate::equations::{Equations, Mark, Node};
+use crate::equations::{Equations, Mark, Node, Unequal};
 use crate::list::List;
 use crate::step::Step;
 use crate::syntax::{Clause, Literal, Table};
@@ -35,7 +35,7 @@ pub struct Tableau<'a> {
 #[derive(Clone, Copy, Debug, PartialEq, Eq)]
 pub enum Obstacle {
     NotAllowed,
-    NotUnifiable,
+    Unequal(Unequal),
 }
 
 /// A moment that `return_to` can return to.
@@ -136,8 +136,8 @@ impl<'a> Tableau<'a> {
     }
 
     fn close(&mut self, left: &Goal, right: &Goal) -> Result<(), Obstacle> {
-        let pairs = left.arguments.iter().copied().zip(right.arguments.iter().copied()).collect();
-        if self.terms.equate(pairs) { Ok(()) } else { Err(Obstacle::NotUnifiable) }
+        let pairs = left.arguments.iter().copied().zip(right.arguments.iter().copied());
+        self.terms.equate(pairs).map_err(Obstacle::Unequal)
     }
 
     /// Puts the goals before the older open leaves.

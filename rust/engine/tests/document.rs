@@ -110,10 +110,10 @@ fn case_10_steps_too_many_and_too_few() {
 }
 
 #[test]
-fn case_11_malformed_and_not_unifiable() {
+fn case_11_malformed_and_a_clash() {
     assert_eq!(check(&case_1(), &[0x8000_0000], 2).report, Report::at(Status::MalformedStep, 0));
     let other_time = file("showing(d,h,mat)\n ? showing(d,h,eve)");
-    assert_eq!(check(&other_time, &[0x4000_0000], 2).report, Report::at(Status::NotUnifiable, 0));
+    assert_eq!(check(&other_time, &[0x4000_0000], 2).report, Report::at(Status::Clash, 0));
 }
 
 #[test]
@@ -284,7 +284,7 @@ fn steps_that_are_not_allowed() {
     }
     let over_bound = check(&file, &[0x4000_0000, 0x4000_0001], 1);
     assert_eq!(over_bound.report, Report::at(Status::StepNotAllowed, 1));
-    assert_eq!(check(&file, &[0x4000_0000, 1], 2).report, Report::at(Status::NotUnifiable, 1));
+    assert_eq!(check(&file, &[0x4000_0000, 1], 2).report, Report::at(Status::Clash, 1));
 }
 
 #[test]

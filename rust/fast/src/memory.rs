@@ -26,7 +26,9 @@ pub const LINKS: usize = SEEN + VARIABLES;
 pub const BOUND_COUNT: usize = LINKS + NODES;
 /// How many more bound variables a naive comparison may visit.
 pub const ALLOWANCE: usize = BOUND_COUNT + 1;
-pub const TRIES: usize = ALLOWANCE + 1;
+/// Whether a comparison met a variable within the term that it should equal.
+pub const CIRCLE: usize = ALLOWANCE + 1;
+pub const TRIES: usize = CIRCLE + 1;
 pub const BUDGET: usize = TRIES + 1;
 /// The bound K.
 pub const LARGEST_COPY: usize = BUDGET + 1;

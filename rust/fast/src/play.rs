@@ -8,10 +8,10 @@ use crate::memory::{
     store, store_many,
 };
 use crate::read::Accepted;
-use crate::terms::{Reference, arguments, bound_count, clash, enter, hang, undo, unify};
+use crate::terms::{Reference, arguments, bound_count, clash, compare, enter, hang, undo, unify};
 use crate::words::{CLAUSE, NEGATIVE, arity, following, is_literal, kind, literals};
-use engine::Status;
 use engine::step::Step;
+use engine::{Status, Unequal};
 
 const NIL: usize = 0;
 const EXTENSION: u32 = 1 << 30;
@@ -293,6 +293,13 @@ fn perform(body: &[u32], work: &mut Work, open: Open, word: u32) -> Result<Open,
     }
 }
 
+fn status(unequal: Unequal) -> Status {
+    match unequal {
+        Unequal::Clash => Status::Clash,
+        Unequal::Circle => Status::Circle,
+    }
+}
+
 fn reduce(body: &[u32], work: &mut Work, open: Open, height: u32) -> Result<Open, Status> {
     let leaf = leaf(work, open.first);
     let mut ancestor = leaf.parent;
@@ -305,9 +312,7 @@ fn reduce(body: &[u32], work: &mut Work, open: Open, height: u32) -> Result<Open
         return Err(Status::StepNotAllowed);
     }
     let literal = Reference(load(work, CELLS + ancestor + 1));
-    if !unify(body, work, leaf.reference, literal) {
-        return Err(Status::NotUnifiable);
-    }
+    compare(body, work, leaf.reference, literal).map_err(status)?;
     Ok(Open { first: leaf.next, ..open })
 }
 
@@ -320,9 +325,7 @@ fn extend(body: &[u32], work: &mut Work, open: Open, clause: u32, literal: u32) 
         return Err(Status::StepNotAllowed);
     }
     hang(work, copies, clause);
-    if !unify(body, work, leaf.reference, Reference::new(copies, literal)) {
-        return Err(Status::NotUnifiable);
-    }
+    compare(body, work, leaf.reference, Reference::new(copies, literal)).map_err(status)?;
     let after = hang_leaves(body, work, cells, first, leaf.next, copies, clause, literal);
     let first = if after == cells { leaf.next } else { cells };
     Ok(Open { first, copies: copies + 1, cells: after })

@@ -4,9 +4,11 @@
 //! references made equal are linked and never compared twice, and a variable is looked into once.
 
 use crate::memory::{
-    ALLOWANCE, BINDINGS, BOUND_COUNT, LINKS, NODES, SEEN, STARTS, TRAIL, VARIABLES, Work, at, load, store, store_many,
+    ALLOWANCE, BINDINGS, BOUND_COUNT, CIRCLE, LINKS, NODES, SEEN, STARTS, TRAIL, VARIABLES, Work, at, load, store,
+    store_many,
 };
 use crate::words::{arity, is_function};
+use engine::Unequal;
 
 const PLACE_BITS: u32 = 14;
 const VISITS_ALLOWED: u32 = 512;
@@ -176,6 +178,15 @@ fn enter_application(body: &[u32], work: &mut Work, argument: Term, word: u32, c
     }
     let Term { reference, .. } = argument;
     equal::<false>(body, work, arity(word), copy, place + 1, reference.copy(), reference.place() + 1)
+}
+
+/// Makes the arguments of two literals equal, or says what is wrong with the first pair that cannot be.
+pub fn compare(body: &[u32], work: &mut Work, left: Reference, right: Reference) -> Result<(), Unequal> {
+    store(work, CIRCLE, 0);
+    if unify(body, work, left, right) {
+        return Ok(());
+    }
+    Err(if load(work, CIRCLE) == 0 { Unequal::Clash } else { Unequal::Circle })
 }
 
 /// Makes the arguments of two literals equal. Where it fails, the bindings are as before.
@@ -455,7 +466,11 @@ fn look_into<const THOROUGH: bool>(body: &[u32], work: &mut Work, variable: usiz
             store(work, BINDINGS + other, MET);
             true
         }
-        MET => other != variable,
+        MET if other == variable => {
+            store(work, CIRCLE, 1);
+            false
+        }
+        MET => true,
         binding => {
             if THOROUGH {
                 if load(work, SEEN + other) != 0 {

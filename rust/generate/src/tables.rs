@@ -277,7 +277,7 @@ fn doubling(random: &mut Random) -> Asked {
 }
 
 /// Random systems of equations in up to 16 variables, each goal one equation: shared terms, clashes and circles of every kind.
-fn equations(random: &mut Random) -> Asked {
+pub fn equations(random: &mut Random) -> Asked {
     let functions = [(0, 2), (0, 2), (1, 1), (0, 0)].map(|(number, arity)| Symbol { number, arity }).to_vec();
     let predicate = Symbol { number: 1, arity: 2 };
     let vocabulary = Vocabulary { predicates: vec![predicate], functions };

@@ -145,11 +145,11 @@ EqualTerms s t σ = under σ s ≡ under σ t
 abbrev pub EqualArguments : Terms Variable → Terms Variable → Equation
 EqualArguments ss ts σ = unders σ ss ≡ unders σ ts
 
-not-lt-zero : {n : ℕ} → n < 0 → ⊥
+pub not-lt-zero : {n : ℕ} → n < 0 → ⊥
 not-lt-zero l = omega arith
 
 -- symbols agree exactly where applications can be equal
-symbol-same : (f g : ℕ) (ss ts : Terms Variable) → sameSymbol f ss g ts ≡ true → f ≡ g
+pub symbol-same : (f g : ℕ) (ss ts : Terms Variable) → sameSymbol f ss g ts ≡ true → f ≡ g
 unfolding sameSymbol
 symbol-same f g ss ts e = eqb-true f g (and-left (eqb f g) _ e)
 
@@ -233,16 +233,16 @@ module _ (Q : Property) (parts : Hereditary Q) where
             (correct bs ss ts g w (parts f ss qs) (parts h ts qt) fits)
         go false e = λ σ s q. never (symbol-agrees f h ss ts σ q) e
 
-    fits-head : (bs : Bindings) (s : Term Variable) (ss : Terms Variable) → Fits Q (suc n) bs (s then ss) → FitsTerm Q n bs (follow bs s)
+    pub fits-head : (bs : Bindings) (s : Term Variable) (ss : Terms Variable) → Fits Q (suc n) bs (s then ss) → FitsTerm Q n bs (follow bs s)
     unfolding Fits FitsTerm height under
     fits-head bs s ss fits =
         λ bs′ g w s′. omega (arith, fits bs′ g w s′, ap height (follow-under (solution bs′) bs s s′))
 
-    fits-tail : (bs bs′ : Bindings) (E : Equation) (s : Term Variable) (ss : Terms Variable) → Grown Q bs E bs′ → Fits Q (suc n) bs (s then ss) → Fits Q n bs′ ss
+    pub fits-tail : (bs bs′ : Bindings) (E : Equation) (s : Term Variable) (ss : Terms Variable) → Grown Q bs E bs′ → Fits Q (suc n) bs (s then ss) → Fits Q n bs′ ss
     unfolding Fits height under
     fits-tail bs bs′ E s ss h fits = λ bs″ g w s′. omega (arith, fits bs″ g w (h .older _ s′))
 
-    head-right : (bs : Bindings) (s t : Term Variable) (ss : Terms Variable) → Good bs → Within Q bs → Q s → Q t → Fits Q (suc n) bs (s then ss)
+    pub head-right : (bs : Bindings) (s t : Term Variable) (ss : Terms Variable) → Good bs → Within Q bs → Q s → Q t → Fits Q (suc n) bs (s then ss)
         → Right Q bs (EqualTerms (follow bs s) (follow bs t)) (meetBy arguments bs (follow bs s) (follow bs t))
     head-right bs s t ss g w qs qt fits =
         meet-right

@@ -8,6 +8,7 @@ use Rattle.words.specs.declared.Step.{Step}
 use Rattle.words.specs.declared.Step.the-variants.{Reduction, Extension, Malformed}
 use Rattle.table.specs.Syntax.{Clause, Table, allClauses}
 use Rattle.rules.specs.Substitution.{Pair}
+use Rattle.rules.specs.Comparison.{a-clash, a-circle}
 use Rattle.rules.specs.Setting.{Setting}
 use Rattle.rules.specs.Machinery.Unify.{Bindings, solution, Unified, made, clash, circle, unify}
 use Rattle.rules.specs.Tableau.{Leaf, Tableau, start, stepped}
@@ -63,8 +64,8 @@ refusal Malformed = malformed
 unfoldable pub onwards : Performed → Step → ℕ → (Play → Checking) → Checking
 onwards (goes-on p) s place next = next p
 onwards not-possible s place next = stopped (refusal s) place
-onwards clashes s place next = stopped not-unified place
-onwards circular s place next = stopped not-unified place
+onwards clashes s place next = stopped (not-unified a-clash) place
+onwards circular s place next = stopped (not-unified a-circle) place
 
 unfoldable pub checkFrom : Setting → Play → ℕ → List Step → Checking
 checkFrom S p place [] = atEnd p place (p .tableau .leaves)

@@ -1,5 +1,6 @@
 //! Requests for the calls of document 02, a module for each.
 
+mod circles;
 mod desk;
 mod slim;
 mod smallest;
@@ -10,14 +11,14 @@ use crate::random::Random;
 
 type Kind = fn(&mut Random, Spelling) -> String;
 
-const KINDS: &[Kind] = &[desk::request, slim::request, smallest::request, tptp::request];
+const KINDS: &[Kind] = &[circles::request, desk::request, slim::request, smallest::request, tptp::request];
 
 pub fn any(random: &mut Random, spelling: Spelling) -> String {
     random.pick(KINDS)(random, spelling)
 }
 
 pub fn borders() -> Vec<String> {
-    [desk::borders(), slim::borders(), smallest::borders(), tptp::borders()].concat()
+    [circles::borders(), desk::borders(), slim::borders(), smallest::borders(), tptp::borders()].concat()
 }
 
 /// A length at, just below or just above what is needed, or ample.
