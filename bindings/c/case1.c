@@ -65,5 +65,19 @@ int main(void)
     struct hukolearu_outcome asked = hukolearu_search(read, said.words, 2, 3, proof, 199, answer, 64, work, 16384);
     wrong |= says("clause text: read into a file, whose question is answered",
                   said.status == HUKOLEARU_FOUND && said.words == 15 && asked.status == HUKOLEARU_FOUND && asked.disjuncts == 2);
+
+    static const char lines[] = "cnf(c0,axiom,(p1(f1,f2) | p1(f1,f3))).\ncnf(c1,negated_conjecture,(~ p1(f1,X0))).\n";
+    static uint8_t out[100];
+    const size_t bytes = sizeof lines - 1;
+    out[bytes] = 0xA5;
+    struct hukolearu_text_written short_by_one = hukolearu_write(file, 15, out, bytes - 1);
+    int empty = out[0] == 0 && out[bytes - 2] == 0;
+    struct hukolearu_text_written written = hukolearu_write(file, 15, out, sizeof out);
+    int equal = 1;
+    for (size_t i = 0; i < bytes; i++)
+        equal &= out[i] == (uint8_t)lines[i];
+    wrong |= says("clause text: written, and refused where it lacks a byte of room",
+                  short_by_one.status == HUKOLEARU_ANSWER_TOO_LONG && short_by_one.bytes == 0 && empty && written.status == HUKOLEARU_FOUND
+                      && written.bytes == bytes && equal && out[bytes] == 0xA5);
     return wrong;
 }

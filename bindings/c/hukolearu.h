@@ -108,4 +108,15 @@ struct hukolearu_text_read {
 
 struct hukolearu_text_read hukolearu_read(const uint8_t *text, size_t text_bytes, uint32_t *file, size_t file_words);
 
+/* Order 2: the text of a file, one clause a line, as cnf(c0,axiom,(p1(f1,f2) | ~ p2(X0))). with a line feed, the question last. On 0 the text
+ * stands at the front of the buffer, later bytes unchanged; a refusal (4 to 9, or 16 where the text does not fit) leaves it unchanged. A text
+ * has at most 2,240,000 bytes. */
+struct hukolearu_text_written {
+    uint32_t status;
+    uint32_t place;
+    uint32_t bytes; /* of the text */
+};
+
+struct hukolearu_text_written hukolearu_write(const uint32_t *file, size_t file_words, uint8_t *text, size_t text_bytes);
+
 #endif

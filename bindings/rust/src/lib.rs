@@ -50,11 +50,20 @@ pub struct TextRead {
     pub words: u32,
 }
 
+/// The text of a file (order 2), and its bytes.
+#[repr(C)]
+#[derive(Clone, Copy, Debug, PartialEq, Eq)]
+pub struct TextWritten {
+    pub status: u32,
+    pub place: u32,
+    pub bytes: u32,
+}
+
 pub const WORK_WORDS: usize = 16_384;
 pub const PROOF_WORDS: usize = 199;
 
 mod archive {
-    use super::{Desk, Least, Outcome, Slimmed, TextRead};
+    use super::{Desk, Least, Outcome, Slimmed, TextRead, TextWritten};
 
     extern "C" {
         #[allow(clippy::too_many_arguments)]
@@ -78,6 +87,7 @@ mod archive {
             answer: *mut u32, answer_words: usize, work: *mut u32, work_words: usize,
         ) -> Least;
         pub fn hukolearu_read(text: *const u8, text_bytes: usize, file: *mut u32, file_words: usize) -> TextRead;
+        pub fn hukolearu_write(file: *const u32, file_words: usize, text: *mut u8, text_bytes: usize) -> TextWritten;
     }
 }
 
@@ -136,6 +146,12 @@ pub fn smallest(file: &[u32], limit: u32, budget: u32, proof: &mut [u32], answer
 pub fn read(text: &[u8], file: &mut [u32]) -> TextRead {
     // SAFETY: as for `search`.
     unsafe { archive::hukolearu_read(text.as_ptr(), text.len(), file.as_mut_ptr(), file.len()) }
+}
+
+/// Writes the text of a question file, one clause a line.
+pub fn write(file: &[u32], text: &mut [u8]) -> TextWritten {
+    // SAFETY: as for `search`.
+    unsafe { archive::hukolearu_write(file.as_ptr(), file.len(), text.as_mut_ptr(), text.len()) }
 }
 
 #[cfg(test)]
@@ -224,6 +240,17 @@ mod tests {
         assert_eq!(read(b"cnf(a,axiomx", &mut file), TextRead { status: 17, place: 11, words: 0 });
         assert_eq!(read(b"% no question", &mut file), TextRead { status: 18, place: 0, words: 0 });
         assert_eq!(read(text, &mut file[..14]), TextRead { status: 19, place: 0, words: 0 });
+    }
+
+    #[test]
+    fn a_file_is_written_as_text_or_nothing_is() {
+        let lines = b"cnf(c0,axiom,(p1(f1,f2) | p1(f1,f3))).\ncnf(c1,negated_conjecture,(~ p1(f1,X0))).\n";
+        let (n, mut text) = (lines.len(), [9; 100]);
+        assert_eq!(write(&CASE_1, &mut text[..n - 1]), TextWritten { status: 16, place: 0, bytes: 0 });
+        assert_eq!(write(&CASE_1[..14], &mut text), TextWritten { status: 5, place: 0, bytes: 0 });
+        assert_eq!(text, [9; 100]);
+        assert_eq!(write(&CASE_1, &mut text), TextWritten { status: 0, place: 0, bytes: n as u32 });
+        assert_eq!((&text[..n], text[n]), (&lines[..], 9));
     }
 
     #[test]

@@ -315,6 +315,33 @@ fn answer_text(line: &[u8], values: &[usize]) {
     lend_file(part::front_bytes(&space, n), request::place(values, 0));
 }
 
+// A buffer for a text, filled before a call.
+fn filled_text() -> [u8; 131072]
+    ensures { λ r. ⌜ 131072 ≡ length r ⌝ }
+{
+    [0xA5; 131072]
+}
+
+fn write_text(file: &[u32], text: &mut [u8]) {
+    let w = clauselines::call::write(file, text);
+    let mut out = line_buffer();
+    let n = textual::written_text(&mut out, 0, w.status, w.place, w.bytes, text);
+    write_line(&out, n);
+}
+
+// Lends the bytes for the text that are asked for.
+fn lend_text(file: &[u32], bytes: usize) {
+    let mut text = filled_text();
+    let b = least(bytes, 131072);
+    write_text(file, &mut text[..b]);
+}
+
+fn answer_written(line: &[u8], values: &[usize]) {
+    let mut space = file_buffer();
+    let n = piece::gather(line, request::place(values, 1), &mut space);
+    lend_text(part::front(&space, n), request::place(values, 0));
+}
+
 // Room for the values of the longest row.
 fn value_buffer() -> [usize; 8]
     ensures { λ r. ⌜ 8 ≡ length r ⌝ }
@@ -374,6 +401,10 @@ fn answer_request(line: &[u8]) {
     }
     if request::asks(line, b"tptp-in", b"nb", &[FILE, TEXT], &mut values) {
         answer_text(line, &values);
+        return;
+    }
+    if request::asks(line, b"tptp-out", b"nw", &[TEXT, FILE], &mut values) {
+        answer_written(line, &values);
         return;
     }
     io::write_all(STDOUT_FILENO, b"error\n");

@@ -1,4 +1,5 @@
 // Every public call for C, in one archive: the same names with a prefix, the same arguments in the same order, the same contracts.
+use clauselines::TextWritten;
 use desk::DeskValues;
 use hukolearu::Outcome;
 use hukolearu::calls;
@@ -13,6 +14,7 @@ ghost use Rattle.slim.specs.Call.{slimCall};
 ghost use Rattle.desk.specs.Desk.{deskSays, valuesOf};
 ghost use Rattle.smallest.specs.Smallest.{smallestCall};
 ghost use Rattle.tptp.specs.Reads.{Reads};
+ghost use Rattle.clauselines.specs.Call.{writeCall};
 
 #[no_mangle]
 pub extern "C" fn hukolearu_search(
@@ -92,4 +94,12 @@ pub extern "C" fn hukolearu_read(text: &[u8], file: &mut [u32]) -> TextRead
     ensures { λ r. ⌜ Reads (now (text .entry)) (now (file .entry)) r (now (file .exit)) ⌝ }
 {
     tptp::call::read(text, file)
+}
+
+#[no_mangle]
+pub extern "C" fn hukolearu_write(file: &[u32], text: &mut [u8]) -> TextWritten
+    ensures { λ r. ⌜ r ≡ writeCall (now (file .entry)) (length (now (text .entry))) .outcome ⌝ }
+    ensures { λ _. ⌜ now (text .exit) ≡ atFront (writeCall (now (file .entry)) (length (now (text .entry))) .text) (now (text .entry)) ⌝ }
+{
+    clauselines::call::write(file, text)
 }

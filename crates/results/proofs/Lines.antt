@@ -7,16 +7,20 @@ use native.Mathlib.Omega.{arith}
 use lib.ListN.{length, take, drop}
 use Rattle.text.specs.Quoted.{bytes}
 use Rattle.text.specs.Put.{Put}
-use Rattle.text.specs.Digits.{decimalText, wordsText}
+use Rattle.text.specs.Digits.{decimalText, wordsText, bytesText}
 use Rattle.text.proofs.Putting.{then}
 use Rattle.hukolearu.specs.declared.Outcome.{Outcome}
 use Rattle.results.specs.Buffers.{allAre, bothUntouched, kept}
-use Rattle.results.specs.Results.{barredText, verdictText, firstNumbersText, lastNumbersText, listsText, outcomeText, leastText, foundText, clauseText, countedText, slimmedText, slotsText, deskText, readText}
+use Rattle.results.specs.Results.{barredText, barredBytesText, verdictText, firstNumbersText, lastNumbersText, listsText, outcomeText, leastText, foundText, clauseText, countedText, slimmedText, slotsText, deskText, readText, writtenText}
 
 module _ {out a : List ℕ} {at n : ℕ} where
   pub barred-is : (ws : List ℕ) → Put out at (bytes " / ") a n → {b : List ℕ} {m : ℕ} → Put a n (wordsText ws) b m → Put out at (barredText ws) b m
   unfolding barredText
   barred-is ws p q = then {a = bytes " / "} p q
+
+  pub barred-bytes-are : (bs : List ℕ) → Put out at (bytes " / ") a n → {b : List ℕ} {m : ℕ} → Put a n (bytesText bs) b m → Put out at (barredBytesText bs) b m
+  unfolding barredBytesText
+  barred-bytes-are bs p q = then {a = bytes " / "} p q
 
   pub verdict-good : {b : Bool} → b ≡ true → Put out at (bytes "\n") a n → Put out at (verdictText b) a n
   verdict-good e p = rw e p
@@ -113,4 +117,11 @@ module _ {out a : List ℕ} {at n : ℕ} where
   unfolding readText
   read-is status place words file p el ff fr ei q r = then (then p (rw (ff, el) at q)) (rw (ei, fr, el) at r)
 
-pub ruleset line-laws = (counted-is, slimmed-is, read-is, slots-are, desk-is, barred-is, verdict-good, verdict-bad, lists-are, first-are, last-are, outcome-is, least-is, found-is, clause-none, clause-some)
+  pub written-is : (status place count : ℕ) (text : List ℕ) → Put out at (countedText status place (bytes " bytes ") count) a n → {long : ℕ} → long ≡ count
+      → {front rest : List ℕ} → front ≡ take long text → rest ≡ drop long text → {intact : Bool} → intact ≡ allAre 0xA5 rest
+      → {b : List ℕ} {m : ℕ} → Put a n (barredBytesText front) b m → {c : List ℕ} {k : ℕ} → Put b m (verdictText intact) c k
+      → Put out at (writtenText status place count text) c k
+  unfolding writtenText
+  written-is status place count text p el ff fr ei q r = then (then p (rw (ff, el) at q)) (rw (ei, fr, el) at r)
+
+pub ruleset line-laws = (counted-is, written-is, slimmed-is, read-is, slots-are, desk-is, barred-is, barred-bytes-are, verdict-good, verdict-bad, lists-are, first-are, last-are, outcome-is, least-is, found-is, clause-none, clause-some)

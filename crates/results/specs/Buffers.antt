@@ -1,4 +1,4 @@
--- What `calls` looks for in the lent buffers: each is filled with A5A5A5A5 before a call.
+-- What `calls` looks for in the lent buffers: each is filled with A5A5A5A5, a buffer of bytes with A5, before a call.
 use mathlib.Core.Bool.{Bool, true, false, cond, _&&_}
 use mathlib.Core.List.{List, [], _∷_}
 use Prim.Native.Nat.{ℕ}

@@ -4,13 +4,16 @@ use mathlib.Core.List.{List, [], _∷_, _++_}
 use Prim.Native.Nat.{ℕ, min}
 use lib.ListN.{length, take, drop}
 use Rattle.text.specs.Quoted.{bytes}
-use Rattle.text.specs.Digits.{decimalText, wordsText}
+use Rattle.text.specs.Digits.{decimalText, wordsText, bytesText}
 use Rattle.hukolearu.specs.declared.Outcome.{Outcome}
 use Rattle.results.specs.Buffers.{allAre, bothUntouched, kept}
 
 -- a list after a bar
 unfoldable pub barredText : List ℕ → List ℕ
 barredText ws = bytes " / " ++ wordsText ws
+
+unfoldable pub barredBytesText : List ℕ → List ℕ
+barredBytesText bs = bytes " / " ++ bytesText bs
 
 -- ` buffers` follows where a word that should be unchanged or zero is not
 abbrev pub verdictText : Bool → List ℕ
@@ -71,3 +74,8 @@ deskText status matinee evening either = bytes "status " ++ decimalText status +
 unfoldable pub readText : ℕ → ℕ → ℕ → List ℕ → List ℕ
 readText status place words file =
     countedText status place (bytes " words ") words ++ barredText (take words file) ++ verdictText (allAre 0xA5A5A5A5 (drop words file))
+
+-- a text written: three numbers, and the bytes at the front of the text's buffer
+unfoldable pub writtenText : ℕ → ℕ → ℕ → List ℕ → List ℕ
+writtenText status place count text =
+    countedText status place (bytes " bytes ") count ++ barredBytesText (take count text) ++ verdictText (allAre 0xA5 (drop count text))

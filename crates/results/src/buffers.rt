@@ -22,6 +22,20 @@ pub fn untouched(list: &[u32]) -> bool
     all(list, 0xA5A5A5A5)
 }
 
+// Bytes that a call should not have changed.
+pub fn untouched_bytes(list: &[u8]) -> bool
+    ensures { λ r. ⌜ r ≡ allAre 0xA5 (now (list .entry)) ⌝ }
+{
+    let mut i = 0;
+    while i < list.len() {
+        if list[i] != 0xA5 {
+            return false;
+        }
+        i += 1;
+    }
+    true
+}
+
 pub fn both_untouched(a: &[u32], b: &[u32]) -> bool
     ensures { λ r. ⌜ r ≡ bothUntouched (now (a .entry)) (now (b .entry)) ⌝ }
 {

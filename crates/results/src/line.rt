@@ -1,7 +1,7 @@
 // The parts that result lines share.
 ghost use mathlib.Core.Path.{_≡_};
 ghost use Rattle.text.specs.Put.{Put};
-ghost use Rattle.results.specs.Results.{barredText, verdictText, listsText, countedText};
+ghost use Rattle.results.specs.Results.{barredText, barredBytesText, verdictText, listsText, countedText};
 use text::put;
 
 // A list after a bar.
@@ -10,6 +10,14 @@ pub fn barred(out: &mut [u8], at: usize, list: &[u32]) -> usize
 {
     let next = put::bytes(out, at, b" / ");
     put::list(out, next, list)
+}
+
+// Bytes after a bar.
+pub fn barred_bytes(out: &mut [u8], at: usize, list: &[u8]) -> usize
+    ensures { λ r. ⌜ Put (now (out .entry)) at (barredBytesText (now (list .entry))) (now (out .exit)) r ⌝ }
+{
+    let next = put::bytes(out, at, b" / ");
+    put::byte_list(out, next, list)
 }
 
 // The end of a line: whether the lent buffers are as they should be.

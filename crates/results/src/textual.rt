@@ -1,7 +1,7 @@
 // The results of reading a text and of writing one.
 ghost use mathlib.Core.Path.{_≡_};
 ghost use Rattle.text.specs.Put.{Put};
-ghost use Rattle.results.specs.Results.{readText};
+ghost use Rattle.results.specs.Results.{readText, writtenText};
 use crate::buffers;
 use crate::line;
 use text::part;
@@ -22,5 +22,23 @@ pub fn read_text(
     let intact = buffers::untouched(part::rest(file, long));
     let a = line::counted(out, at, status, place, b" words ", words);
     let b = line::barred(out, a, part::front(file, long));
+    line::verdict(out, b, intact)
+}
+
+// A text written. The text's whole buffer is given.
+pub fn written_text(
+    out: &mut [u8],
+    at: usize,
+    status: u32,
+    place: u32,
+    count: u32,
+    text: &[u8],
+) -> usize
+    ensures { λ r. ⌜ Put (now (out .entry)) at (writtenText status place count (now (text .entry))) (now (out .exit)) r ⌝ }
+{
+    let long = wide(count);
+    let intact = buffers::untouched_bytes(part::rest_bytes(text, long));
+    let a = line::counted(out, at, status, place, b" bytes ", count);
+    let b = line::barred_bytes(out, a, part::front_bytes(text, long));
     line::verdict(out, b, intact)
 }

@@ -4,10 +4,10 @@ use mathlib.Core.List.{List, [], _∷_}
 use Prim.Native.Nat.{ℕ}
 use Rattle.text.specs.Quoted.{bytes}
 use Rattle.text.specs.Put.{put, after}
-use Rattle.text.specs.Digits.{digitsOf, significant, hexText, decimalText, spacedText, wordsText}
+use Rattle.text.specs.Digits.{digitsOf, significant, hexText, decimalText, spacedText, wordsText, pairsText, bytesText}
 
 unfoldable opened : Unit {0}
-unfolding put after digitsOf significant spacedText wordsText
+unfolding put after digitsOf significant spacedText wordsText pairsText bytesText
 opened = tt
 
 pub quoted-bytes : bytes "or\n" ≡ 111 ∷ 114 ∷ 10 ∷ []
@@ -32,6 +32,14 @@ two-words = refl
 pub no-words : wordsText [] ≡ bytes "-"
 unfolding opened
 no-words = refl
+
+pub run-together : bytesText (0x63 ∷ 0xA ∷ 0xFF ∷ []) ≡ bytes "630AFF"
+unfolding opened
+run-together = refl
+
+pub no-bytes : bytesText [] ≡ bytes "-"
+unfolding opened
+no-bytes = refl
 
 -- what does not fit is counted
 pub cut-short : put (bytes "....") 2 (bytes "text") ≡ bytes "..te"

@@ -11,7 +11,7 @@ use lib.ListN.{length, take, drop, getD, drop-of-length-le}
 use lib.Seq.{drop-cons, take-all}
 use borrow.Author.Tests.{lt-ltb, le-ltb, eq-eqb, ne-eqb}
 use Rattle.text.specs.Put.{put, Put}
-use Rattle.text.specs.Digits.{glyphOf, digitsOf, hexText, significant, decimalText, spacedText, wordsText}
+use Rattle.text.specs.Digits.{glyphOf, digitsOf, hexText, significant, decimalText, spacedText, wordsText, pairsText, bytesText}
 use Rattle.text.proofs.Putting.{Left, begin, further, finish, then}
 
 pub from-place : (own : List ℕ) (at : ℕ) → at < length own → drop at own ≡ getD own at 0 ∷ drop (at + 1) own
@@ -151,3 +151,23 @@ pub list-some : {out : List ℕ} {at : ℕ} (ws : List ℕ) → (length ws ≡ 0
 unfolding wordsText
 list-some [] n p q = absurd (n refl)
 list-some (w ∷ ws) n p q = then p (rw (take-all (length (w ∷ ws) - 1) ws (omega arith)) at q)
+
+-- bytes run together
+module _ {first : List ℕ} {from : ℕ} {whole out : List ℕ} {at : ℕ} (bs : List ℕ) (i : ℕ) (l : Left first from whole out at (pairsText (drop i bs))) where
+  pub pairs-more : i < length bs → {out' : List ℕ} {at' : ℕ} → Put out at (digitsOf 16 2 (getD bs i 0)) out' at' → Left first from whole out' at' (pairsText (drop (i + 1) bs))
+  unfolding pairsText
+  pairs-more h p = further (digitsOf 16 2 (getD bs i 0)) (pairsText (drop (i + 1) bs)) (rw (from-place bs i h) at l) p
+
+  pub pairs-last : length bs ≤ i → Put first from whole out at
+  unfolding pairsText
+  pairs-last h = finish (rw (drop-of-length-le bs h) at l)
+
+pub bytes-none : {out : List ℕ} {at : ℕ} (bs : List ℕ) → length bs ≡ 0 → {out' : List ℕ} {at' : ℕ} → Put out at (45 ∷ []) out' at' → Put out at (bytesText bs) out' at'
+unfolding bytesText
+bytes-none [] e p = p
+bytes-none (b ∷ bs) e p = absurd (omega arith)
+
+pub bytes-some : {out : List ℕ} {at : ℕ} (bs : List ℕ) → (length bs ≡ 0 → ⊥) → {out' : List ℕ} {at' : ℕ} → Put out at (pairsText bs) out' at' → Put out at (bytesText bs) out' at'
+unfolding bytesText
+bytes-some [] n p = absurd (n refl)
+bytes-some (b ∷ bs) n p = p

@@ -37,3 +37,13 @@ spacedText (w ∷ ws) = bytes " " ++ hexText w ++ spacedText ws
 unfoldable pub wordsText : List ℕ → List ℕ
 wordsText [] = bytes "-"
 wordsText (w ∷ ws) = hexText w ++ spacedText ws
+
+-- bytes in two hexadecimal digits each, run together
+unfoldable pub pairsText : List ℕ → List ℕ
+pairsText [] = []
+pairsText (b ∷ bs) = digitsOf 16 2 b ++ pairsText bs
+
+-- `-` stands for none
+unfoldable pub bytesText : List ℕ → List ℕ
+bytesText [] = bytes "-"
+bytesText (b ∷ bs) = pairsText (b ∷ bs)

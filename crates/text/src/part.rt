@@ -20,6 +20,15 @@ pub fn front(list: &[u32], n: usize) -> &[u32]
     list
 }
 
+pub fn rest_bytes(list: &[u8], n: usize) -> &[u8]
+    ensures { λ r. ⌜ now r ≡ drop n (now (list .entry)) ⌝ }
+{
+    if n < list.len() {
+        return &list[n..];
+    }
+    &list[0..0]
+}
+
 pub fn rest(list: &[u32], n: usize) -> &[u32]
     ensures { λ r. ⌜ now r ≡ drop n (now (list .entry)) ⌝ }
 {

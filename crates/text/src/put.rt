@@ -4,7 +4,7 @@ ghost use mathlib.Core.Path.{_≡_};
 ghost use mathlib.Core.List.{[], _∷_, _++_};
 ghost use Prim.Native.Nat.{_+_, _^_, _≤_, _<_, min, max};
 ghost use Rattle.text.specs.Put.{Put};
-ghost use Rattle.text.specs.Digits.{glyphOf, digitsOf, hexText, decimalText, spacedText, wordsText};
+ghost use Rattle.text.specs.Digits.{glyphOf, digitsOf, hexText, decimalText, spacedText, wordsText, pairsText, bytesText};
 use words::fields::wide;
 
 // The position after a further element that has no room.
@@ -133,6 +133,36 @@ pub fn list(out: &mut [u8], at: usize, list: &[u32]) -> usize
     }
     let next = hex(out, at, list[0]);
     spaced(out, next, &list[1..])
+}
+
+// A byte in two hexadecimal digits.
+fn pair(out: &mut [u8], at: usize, b: u8) -> usize
+    ensures { λ r. ⌜ Put (now (out .entry)) at (digitsOf 16 2 b) (now (out .exit)) r ⌝ }
+{
+    digits(out, at, b as u64, 16, 2, 256)
+}
+
+// Bytes run together.
+fn pairs(out: &mut [u8], from: usize, list: &[u8]) -> usize
+    ensures { λ r. ⌜ Put (now (out .entry)) from (pairsText (now (list .entry))) (now (out .exit)) r ⌝ }
+{
+    let mut at = from;
+    let mut i = 0;
+    while i < list.len() {
+        at = pair(out, at, list[i]);
+        i += 1;
+    }
+    at
+}
+
+// Bytes run together; `-` stands for none.
+pub fn byte_list(out: &mut [u8], at: usize, list: &[u8]) -> usize
+    ensures { λ r. ⌜ Put (now (out .entry)) at (bytesText (now (list .entry))) (now (out .exit)) r ⌝ }
+{
+    if list.len() == 0 {
+        return byte(out, at, b'-');
+    }
+    pairs(out, at, list)
 }
 
 // A name and a number.

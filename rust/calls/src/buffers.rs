@@ -2,6 +2,7 @@
 
 use crate::Lent;
 use engine::{Report, Status, WORK_WORDS};
+use orders::tptp::writer::TextWritten;
 use std::fmt::Write as _;
 
 pub const FILLER: u32 = 0xA5A5_A5A5;
@@ -41,6 +42,29 @@ impl Buffers {
         }
         let (used, rest) = self.work.split_at(WORK_WORDS);
         used.iter().all(|&word| word == 0) && untouched(rest)
+    }
+}
+
+/// A buffer for a text.
+pub struct Bytes(Vec<u8>);
+
+impl Bytes {
+    pub fn filled(length: usize) -> Bytes {
+        Bytes(vec![FILLER as u8; length])
+    }
+
+    pub fn lend(&mut self) -> &mut [u8] {
+        &mut self.0
+    }
+
+    /// With whether the other buffers are as they should be.
+    pub fn outcome(&self, written: &TextWritten, others: bool) -> String {
+        let TextWritten { status, place, bytes } = *written;
+        let (text, rest) = self.0.split_at(bytes as usize);
+        let digits: String = text.iter().map(|byte| format!("{byte:02X}")).collect();
+        let digits = if digits.is_empty() { "-" } else { &digits };
+        let intact = others && rest.iter().all(|&byte| byte == FILLER as u8);
+        format!("status {} place {place} bytes {bytes} / {digits}{}", status as u32, mark(intact))
     }
 }
 

@@ -77,6 +77,7 @@ fn perform(engine: &mut impl Engine, line: &Line) -> Option<String> {
         "slim" => slim::respond(line),
         "smallest" => smallest::respond(engine, line),
         "tptp-in" => tptp::respond_in(line),
+        "tptp-out" => tptp::respond_out(line),
         _ => None,
     }
 }

@@ -1,6 +1,7 @@
-//! Order 1: a question file from TPTP clause text.
+//! Order 1: a question file from TPTP clause text. Order 2, and out again, is in `writer`.
 
 mod reader;
+pub mod writer;
 
 use engine::Status;
 use engine::file::with_trailer;

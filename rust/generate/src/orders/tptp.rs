@@ -9,7 +9,7 @@ use orders::tptp::read;
 
 const FILE_ROOM: usize = 16_100;
 
-fn line(text: &[u8], file_room: usize) -> String {
+pub fn line(text: &[u8], file_room: usize) -> String {
     let bytes: String = text.iter().map(|byte| format!("{byte:02X}")).collect();
     format!("tptp-in {file_room} / {}", if bytes.is_empty() { "-" } else { &bytes })
 }

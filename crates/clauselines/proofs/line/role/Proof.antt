@@ -1,0 +1,19 @@
+use borrow.Author.Needs.{needs}
+use Rattle.clauselines.proofs.Clauses.{clause-laws}
+use Rattle.clauselines.proofs.line.role.Statement.{statement}
+use Rattle.clauselines.proofs.line.role.Tie as tie
+
+ruleset all = (needs, clause-laws)
+
+pub role-spec : {M : Type 1} → statement M
+role-spec =
+    tie.close
+    (tie.spec
+    (λ c. search all)
+    (λ c κs. search all)
+    (λ c. search all)
+    (λ c. search all)
+    (λ c. search all)
+    (λ c κs. search all)
+    (λ c. search all)
+    (λ c. search all))

@@ -1,0 +1,16 @@
+use borrow.Author.Needs.{needs}
+use Rattle.clauselines.proofs.Clauses.{clause-laws}
+use Rattle.clauselines.proofs.line.sign.Statement.{statement}
+use Rattle.clauselines.proofs.line.sign.Tie as tie
+
+ruleset all = (needs, clause-laws)
+
+pub sign-spec : {M : Type 1} → statement M
+sign-spec =
+    tie.close
+    (tie.spec
+    (λ c. search all)
+    (λ c κs. search all)
+    (λ c. search all)
+    (λ c. search all)
+    (λ c. search all))

@@ -1,0 +1,3 @@
+pub mod Renumbered
+pub mod Written
+pub mod Promises

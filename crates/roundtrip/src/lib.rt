@@ -1,0 +1,1 @@
+// Roundtrip: no code; what reading the text of a table back gives (order 2), and the theorems about it.
