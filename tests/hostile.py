@@ -218,6 +218,33 @@ def many():
     search("500 clauses that double, the last fits", [*doubles, Clause(("~", Q, "T", "T", (509,)))])
 
 
-for family in (within, two_within, across, compared, crowds, deep, branches, many):
+# Thirteen copies of the question, each with a term of its own that grows from a constant: x1 = g(a,a,a,a), .. g(x1,x1,x1,x1), ..
+# Equal terms are said once (order 3); the last copy's may differ in the last place alone, or each in the name of a variable.
+def grown(count, bottom, last):
+    xs = [bottom, *chain("X", count)[1:]]
+    return Clause(("+", Q, row([*xs[1:], last]), row([*[(G, x, x, x, x) for x in xs[:-1]], last])))
+
+
+def copies(title, first, other, answer=4096):
+    ask = Clause(("~", P, (A,)), ("~", P, (A,)), ("~", Q, "T", "T"))
+    six = [extension(3), 1, extension(1)] * 6
+    steps = [extension(0), *six, extension(0), *six[:-1], extension(2), extension(1)]
+    clauses = [Clause(*[("+", P, (A,))] * 7), first, other, ask]
+    check(f"13 copies of the question, {title}", clauses, steps, answer=answer)
+
+
+def repeats():
+    for count in (1, 15):
+        same, last, free = grown(count, (A,), (A,)), grown(count, (A,), (B,)), grown(count, "X0", (A,))
+        copies(f"{count} times fourfold, all equal", same, same)
+        copies(f"{count} times fourfold, one unequal in the last place", same, last)
+        copies(f"{count} times fourfold, all apart by a variable's name", free, free)
+        copies(f"{count} times fourfold, all equal but one by a variable's name", same, free)
+    one = grown(1, (A,), (A,))
+    copies("all equal, in the words of one", one, one, answer=23)
+    copies("all equal, in a word fewer", one, one, answer=22)
+
+
+for family in (within, two_within, across, compared, crowds, deep, branches, many, repeats):
     family()
 keep({"tests/hostile.txt": "\n".join(REQUESTS) + "\n"})

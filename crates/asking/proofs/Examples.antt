@@ -6,7 +6,7 @@ use Rattle.text.specs.Digits.{digitsOf, significant, spacedText}
 use Rattle.hukolearu.proofs.CallCases.{called}
 use Rattle.asking.specs.Report.{summaryText, lineText, literalsIn, disjunctLength, cutInto, linesOf, disjunctsText, answerText, reportText}
 use Rattle.asking.specs.Program.{readable, asked, saidOf, givenText, askText}
-use Rattle.asking.specs.Cases.{AsPrinted, Answered, OneLine}
+use Rattle.asking.specs.Cases.{AsPrinted, SaidOnce, Answered, OneLine}
 
 unfoldable printed : Unit {0}
 unfolding called wordsOf wordBytes bytesOf digitsOf significant spacedText summaryText lineText literalsIn disjunctLength cutInto linesOf disjunctsText answerText reportText readable asked saidOf givenText askText
@@ -15,6 +15,10 @@ printed = tt
 pub as-printed : AsPrinted
 unfolding printed
 as-printed = refl
+
+pub said-once : SaidOnce
+unfolding printed
+said-once = refl
 
 pub answered : Answered
 unfolding printed

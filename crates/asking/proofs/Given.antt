@@ -16,12 +16,14 @@ use Rattle.table.specs.File.{judge, tableIn}
 use Rattle.table.specs.Limits.{Within}
 use Rattle.table.specs.Syntax.{Literal, literalUnder, Clause, Table}
 use Rattle.table.proofs.AcceptedTable.{accepted-within}
-use Rattle.rules.specs.Answer.{positive, disjunct, disjuncts, joined, numbered, answerWords}
+use Rattle.rules.specs.Answer.{positive, disjunct, perCopy, sameDisjunct, firstsAfterBy, firstsBy, disjuncts, joined, numbered, answerWords}
 use Rattle.rules.specs.Setting.{Setting, base}
 use Rattle.rules.specs.Substitution.{Variable, Substitution}
 use Rattle.rules.specs.Tableau.{Tableau, fresh, copyOf}
 use Rattle.rules.specs.Verdict.{Answers}
 use Rattle.rules.proofs.Demands.{proof-is-short}
+use Rattle.rules.proofs.Every.{All, end, _also_}
+use Rattle.rules.proofs.Firsts.{firsts-all}
 use Rattle.rules.proofs.Variables.{question-within}
 use Rattle.hukolearu.specs.Calls as Calls
 use Rattle.hukolearu.specs.Calls.{Given, searchCall}
@@ -79,25 +81,32 @@ unfolding literalsWords literalWords
 literals-long [] = omega arith
 literals-long (l ∷ ls) = omega (arith, literals-long ls, length-append (literalWords l) (literalsWords ls))
 
-module _ (σ : Substitution) (question : Clause) where
-  joined-length : (qs : List ℕ) → length (joined (map (disjunct σ question) qs)) ≡ length qs * length (question .literals)
-  unfolding joined disjunct copyOf
-  joined-length [] = omega arith
-  joined-length (q ∷ qs) =
-      length-append (disjunct σ question q) (joined (map (disjunct σ question) qs))
-      ∙ rw (joined-length qs, length-map (copyOf q question) (λ l. literalUnder σ (positive l)), length-map (question .literals) (literalUnder (fresh q))) (more (length qs) (length (question .literals)))
-    where
-      more : (n m : ℕ) → m + n * m ≡ suc n * m
-      more n m = rw (suc-mul n m) (omega arith)
+joined-length : (m : ℕ) {ds : List (List (Literal Variable))} → All (λ d. length d ≡ m) ds → length (joined ds) ≡ length ds * m
+unfolding joined
+joined-length m end = omega arith
+joined-length m (_also_ {a = d} {xs = ds} e es) =
+    length-append d (joined ds) ∙ rw (joined-length m es, e) (more (length ds))
+  where
+    more : (n : ℕ) → m + n * m ≡ suc n * m
+    more n = rw (suc-mul n m) (omega arith)
+
+copies-long : (σ : Substitution) (question : Clause) (qs : List ℕ) → All (λ d. length d ≡ length (question .literals)) (map (disjunct σ question) qs)
+unfolding disjunct copyOf
+copies-long σ question [] = end
+copies-long σ question (q ∷ qs) =
+    let e : length (map (λ l. literalUnder σ (positive l)) (copyOf q question)) ≡ length (question .literals) =
+    length-map (copyOf q question) (λ l. literalUnder σ (positive l)) ∙ length-map (question .literals) (literalUnder (fresh q)) in
+    e also copies-long σ question qs
 
 pub few-disjuncts : {t : Table} {x : Tableau} {count : ℕ} {words : List ℕ} → 1 ≤ length (t .question .literals) → Answers t x count words → count ≤ length words
-unfolding answerWords numbered disjuncts
+unfolding answerWords numbered disjuncts perCopy firstsBy
 few-disjuncts {t} {x} {count} {words} some a =
-    let all = joined (disjuncts (a .by) t x) in
+    let ds = firstsAfterBy sameDisjunct [] (map (disjunct (a .by) (t .question)) (x .questions)) in
+    let all = joined ds in
     let long : length (numbered all) ≤ length words = rw (a .written) (literals-long (numbered all)) in
-    let product : length (numbered all) ≡ length (x .questions) * length (t .question .literals) =
-    length-map all _ ∙ joined-length (a .by) (t .question) (x .questions) in
-    let least : length (x .questions) * 1 ≤ length (x .questions) * length (t .question .literals) = mul-le-mul-left (length (x .questions)) some in
+    let product : length (numbered all) ≡ length ds * length (t .question .literals) =
+    length-map all _ ∙ joined-length (length (t .question .literals)) (firsts-all sameDisjunct [] _ end (copies-long (a .by) (t .question) (x .questions))) in
+    let least : length ds * 1 ≤ length ds * length (t .question .literals) = mul-le-mul-left (length ds) some in
     omega (arith, a .counted)
 
 -- and there are few of them

@@ -19,7 +19,19 @@ AsPrinted =
     ≡ bytes
     "status 0 place 0 tries 3\nproof 40000000 40000001\nor 80002001 40000001 40000002\nor 80002001 40000001 40000003\n"
 
--- and it has an answer, as the promises ask (Promises.LinesAreDisjuncts, AsManyLines)
+-- order 3: p(a); r or p(a); r or s; not s; ask p(X) and r
+abbrev pub order-3 : List ℕ
+order-3 =
+    0xC0000201 ∷ 0x80001001 ∷ 0x40000001 ∷ 0xC0000302 ∷ 0x80000002 ∷ 0x80001001 ∷ 0x40000001 ∷ 0xC0000202 ∷ 0x80000002 ∷ 0x80000003
+    ∷ 0xC0000101 ∷ 0x80008003 ∷ 0xC000030A ∷ 0x80009001 ∷ 0x00000000 ∷ 0x80008002 ∷ 12 ∷ 5 ∷ 0x2B1B6773 ∷ 16 ∷ []
+
+-- the same alternative twice is one line
+abbrev pub SaidOnce : Type 0
+SaidOnce =
+    askText (bytesOf (5 ∷ 100 ∷ order-3))
+    ≡ bytes "status 0 place 0 tries 7\nproof 40000000 40000001 40000004 40000002 40000003\nor 80001001 40000001 80000002\n"
+
+-- case 1 has an answer, as the promises ask (Promises.LinesAreDisjuncts, AsManyLines)
 abbrev pub Answered : Type 0
 Answered = asked case-1 2 3 .outcome .status ≡ 0
 

@@ -4,7 +4,7 @@ use borrow.Author.Tests.{eqb-true, eq-eqb, ne-eqb}
 use lib.Dec.{eqb}
 use mathlib.Core.Bool.{Bool, true, false, cond, _&&_, _||_}
 use mathlib.Core.List.{List, [], _∷_, map}
-use mathlib.Core.Path.{_≡_, refl, _∙_, ap, ap₂, subst}
+use mathlib.Core.Path.{_≡_, refl, sym, _∙_, ap, ap₂, subst}
 use native.Mathlib.Omega.{arith}
 use Prim.Native.Nat.{ℕ, zero, suc, _+_, _≤_, _<_}
 use Rattle.table.specs.Syntax.{Term, var, app, Terms, nil, _then_, under, unders, Literal, literalUnder, Table}
@@ -16,9 +16,12 @@ use Rattle.table.proofs.Building.{says-table}
 use Rattle.rules.specs.Substitution.{Variable, Substitution}
 use Rattle.rules.specs.Tableau.{copyOf}
 use Rattle.rules.specs.Setting.{base}
-use Rattle.rules.specs.Answer.{positive, disjunct, disjuncts, disjunctsIn}
+use Rattle.rules.specs.Answer.{positive, disjunct, perCopy, sameDisjunct, firstsBy, disjuncts, disjunctsIn}
 use Rattle.rules.specs.Truth.{Interpretation, Assignment, value, values, atomTrue, literalTrue, someTrue, allTrue, someAllTrue, Holds, AllHold, AnswerHolds, TrueAnswer}
 use Rattle.rules.proofs.Demands.{answer-is-most-general}
+use Rattle.rules.proofs.Every.{All, end, _also_}
+use Rattle.rules.proofs.Firsts.{firsts-all, all-back}
+use Rattle.rules.proofs.Sameness.{disjuncts-told}
 use Rattle.hukolearu.specs.Calls.{Given, searchCall}
 use Rattle.hukolearu.specs.Says.{SearchAccepted, SearchSays, ran-out, none-found, found-fitting, found-too-long}
 use Rattle.hukolearu.proofs.CallDemands.{search-says, found-answers-hold}
@@ -189,19 +192,24 @@ module _ (I : Interpretation) (a : Variable → ℕ) (τ : Substitution) (day ho
   abbrev asked-true : ℕ → Bool
   asked-true n = I .predicate 1 (I .function day [] ∷ I .function (1000 + house) [] ∷ I .function n [] ∷ [])
 
-  some-asked : (b : Bool) (n : ℕ) → (asked-true n && true) || b ≡ true → (b ≡ true → asked-true n ≡ true) → asked-true n ≡ true
-  some-asked b n e later = go (asked-true n) refl e
-    where
-      go : (x : Bool) → asked-true n ≡ x → (x && true) || b ≡ true → asked-true n ≡ true
-      go true h k = h
-      go false h k = later k
+  and-true : (b : Bool) → (b && true) ≡ b
+  and-true true = refl
+  and-true false = refl
 
-  one-asked : (asked : Slot) → (asked ≡ either → ⊥) → (copies : List ℕ) → someAllTrue I a (map (disjunct τ (question day house asked)) copies) ≡ true → asked-true (slotNumber asked) ≡ true
-  unfolding someAllTrue allTrue atomTrue value disjunct positive copyOf literalUnder under question askedSlot
-  one-asked asked n [] e = never e
-  one-asked matinee n (c ∷ cs) e = some-asked (someAllTrue I a (map (disjunct τ (question day house matinee)) cs)) 2001 e (one-asked matinee n cs)
-  one-asked evening n (c ∷ cs) e = some-asked (someAllTrue I a (map (disjunct τ (question day house evening)) cs)) 2002 e (one-asked evening n cs)
-  one-asked either n (c ∷ cs) e = absurd (n refl)
+  all-asked : (asked : Slot) → (asked ≡ either → ⊥) → (copies : List ℕ)
+      → All (λ d. allTrue I a d ≡ asked-true (slotNumber asked)) (map (disjunct τ (question day house asked)) copies)
+  unfolding allTrue atomTrue value disjunct positive copyOf literalUnder under question askedSlot
+  all-asked asked n [] = end
+  all-asked matinee n (c ∷ cs) = and-true (asked-true 2001) also all-asked matinee n cs
+  all-asked evening n (c ∷ cs) = and-true (asked-true 2002) also all-asked evening n cs
+  all-asked either n (c ∷ cs) = absurd (n refl)
+
+  -- said once each, under some substitution, they are what was asked all the same
+  one-asked : (b : Bool) {es : List (List (Literal Variable))} → All (λ d. allTrue I a d ≡ b) es → someAllTrue I a es ≡ true → b ≡ true
+  unfolding someAllTrue
+  one-asked b end e = never e
+  one-asked true (h also hs) e = refl
+  one-asked false (_also_ {xs = es} h hs) e = one-asked false hs (sym (ap (λ (x : Bool). x || someAllTrue I a es) h) ∙ e)
 
 -- so what is asked is recorded
 slot-high : (asked : Slot) → (asked ≡ either → ⊥) → 2000 < slotNumber asked
@@ -235,15 +243,17 @@ module _ (rs : List Record) (day house : ℕ) (asked : Slot) (d : day ≤ 366) (
 
   said-stated : {budget room : ℕ} {g : Given} → SearchSays (base (deskTable rs day house asked) 2) budget room g → g .outcome .status ≡ 0
       → TrueAnswer I (question day house asked) (g .outcome .disjuncts) (g .answer) → recorded day house asked rs ≡ true
-  unfolding disjuncts deskTable
+  unfolding disjuncts perCopy firstsBy deskTable
   said-stated (ran-out s l) z true-answer = absurd (omega arith)
   said-stated (none-found s l) z true-answer = absurd (omega arith)
   said-stated (found-too-long s l c a f) z true-answer = absurd (omega arith)
   said-stated (found-fitting {steps} {tries} {count} {words} s l c a f) z true-answer =
       let general = answer-is-most-general (base (deskTable rs day house asked) 2) limits (omega arith) steps c count words a (c .unifiable .by) (c .unifiable .solves) in
       let none : Assignment I Variable = record { element = λ x. 0; within = λ x. omega arith } in
-      let some-true = holds-of I none (general .0) (disjunctsIn (question day house asked) words) (general .1) (true-answer .holds) in
-      asked-recorded rs day house asked d h one-slot (one-asked I (λ x. 0) (c .unifiable .by) day house asked one-slot (c .tableau .questions) some-true)
+      let some-true = holds-of I none (general .0) (disjunctsIn (question day house asked) words) refl (true-answer .holds) in
+      let all = firsts-all sameDisjunct [] _ end (all-asked I (λ x. 0) (c .unifiable .by) day house asked one-slot (c .tableau .questions)) in
+      let said = all-back disjuncts-told (map (map (literalUnder (general .0))) (disjunctsIn (question day house asked) words)) (rw (general .1) at all) in
+      asked-recorded rs day house asked d h one-slot (one-asked I (λ x. 0) (c .unifiable .by) day house _ said some-true)
 
 -- A matinee or an evening that the search finds is stated by a record: from the truth of answers alone.
 pub found-is-stated : (words : List ℕ) (day house slot : ℕ) → Intake words → Asked day house slot → slot ≤ 2 → (budget : ℕ)

@@ -14,14 +14,14 @@ use Rattle.words.specs.Fields.{kindOf, numberOf, symbolOf, arityOf, signOf, lit
 use Rattle.words.proofs.Packed.{bits-small, plain-kind, literal-plain, literal-word, sign-bit}
 use Rattle.table.specs.Syntax.{Terms, nil, _then_, arity, under, unders, Literal, literalUnder}
 use Rattle.table.specs.Reading.{variableFits, termArity, afterTerm, afterLiteral, after, stopsShort, onward, fault, clauseFits, clauseFault}
-use Rattle.table.specs.Decode.{first, rest, termsFrom, literalsFrom, clauseOf}
+use Rattle.table.specs.Decode.{first, rest, termsFrom, literalOf, literalsFrom, clauseOf}
 use Rattle.table.proofs.Bools.{and-left, and-right}
 use Rattle.table.proofs.Decoding.{from-literal, literals-literal, literals-other}
 use Rattle.rules.specs.Substitution.{Variable, Substitution}
 use Rattle.rules.specs.Tableau.{fresh, copyOf}
 use Rattle.rules.specs.Answer.{positive, disjunct}
-use Rattle.unification.specs.State.{startAt, copiesOf, ownWords, ClauseAt, wordsAt, Points}
-use Rattle.unification.specs.Good.{wordAt, Inside, Good}
+use Rattle.unification.specs.State.{startAt, copiesOf, ownWords, ClauseAt, wordsAt, literalAtReference, Points}
+use Rattle.unification.specs.Good.{wordAt, Inside, LiteralStands, Good}
 use Rattle.engine.specs.Writing.{Item, fixed, itemsOf, itemsAmong, itemsOfAll, itemsByKind, wordItems, wordsItems, unsigned, standing, WordStands}
 use Rattle.tableaux.proofs.Hanging.{own-small, own-inside, own-word}
 use Rattle.unification.proofs.TermLists.{arity-first, arity-rest, arity-under}
@@ -184,13 +184,21 @@ pub record Reached (f : List ℕ) (p i : ℕ) : Type 0 where
   pub place : ℕ
   pub sound : fault (variablesOf (getD f p 0)) literals terms place (drop i (ownWords f p)) ≡ none
 
-own-drop : (f : List ℕ) (p i : ℕ) → i < length (ownWords f p) → drop i (ownWords f p) ≡ getD f (p + i) 0 ∷ drop (i + 1) (ownWords f p)
+pub own-drop : (f : List ℕ) (p i : ℕ) → i < length (ownWords f p) → drop i (ownWords f p) ≡ getD f (p + i) 0 ∷ drop (i + 1) (ownWords f p)
 own-drop f p i h = rw add-one (drop-cons (ownWords f p) i 0 h ∙ ap (_∷ drop (suc i) (ownWords f p)) (own-word f p i h))
 
 some-term : {w l t l′ t′ : ℕ} → Owes w l t l′ t′ → kindOf w ≡ 0 → 0 < t
 some-term (a-variable k) e = omega arith
 some-term {w} (a-function s) e = absurd (let k = function-kind w s in omega (arith, k, e))
 some-term {w} (a-literal s) e = absurd (let k = literal-kind w s in omega (arith, k, e))
+
+a-literal-owes : {w l t l′ t′ : ℕ} → Owes w l t l′ t′ → kindOf w ≡ 2 → (l ≡ suc l′) × (t ≡ 0)
+a-literal-owes (a-variable k) e = absurd (omega (arith, k, e))
+a-literal-owes {w} (a-function s) e = absurd (let k = function-kind w s in omega (arith, k, e))
+a-literal-owes (a-literal s) e = (refl, refl)
+
+owed-literal : (v : ℕ) {l t l′ : ℕ} (place : ℕ) (ws : List ℕ) → (l ≡ suc l′) × (t ≡ 0) → fault v l t place ws ≡ none → fault v (suc l′) 0 place ws ≡ none
+owed-literal v place ws o s = rw (o .0, o .1) at s
 
 word-shape : {w l t l′ t′ : ℕ} → Owes w l t l′ t′ → (kindOf w ≡ 0 → ⊥) → w < 2 ^ 32 → unsigned w ≡ standing (kindOf w) w
 word-shape (a-variable k) n l = absurd (n k)
@@ -237,7 +245,7 @@ module _ {f m : List ℕ} {copy : ℕ} (h : Good f m) (c : copy < copiesOf m) wh
     pub offset-reached : Reached f (startAt m copy) (i + 1)
     offset-reached = record { literals = here .literals; terms = here .terms; place = r .place + 1; sound = here .sound }
 
-    offset-word : wordAt f m (copy * 256 + i) ≡ getD f (startAt m copy + i) 0
+    pub offset-word : wordAt f m (copy * 256 + i) ≡ getD f (startAt m copy + i) 0
     offset-word = rw (copy-of, offset-of)
 
     offset-points : kindOf (getD f (startAt m copy + i) 0) ≡ 0 → Points f m (copy * 256 + i) 1
@@ -248,6 +256,18 @@ module _ {f m : List ℕ} {copy : ℕ} (h : Good f m) (c : copy < copiesOf m) wh
           made = rw copy-of c;
           owing = rw (copy-of, offset-of) (record { more = r .terms - 1; literals = r .literals; place = r .place; sound = rw z (r .sound) });
         }
+
+    pub offset-literal : kindOf (wordAt f m (copy * 256 + i)) ≡ 2 → LiteralStands f m (copy * 256 + i)
+    unfolding wordsAt
+    offset-literal e =
+        let o = a-literal-owes (here .word) (ap kindOf (sym offset-word) ∙ e) in
+        record { made = rw copy-of c; literals = here .literals; place = r .place; sound = rw (copy-of, offset-of) (owed-literal (variablesOf (getD f (startAt m copy) 0)) (r .place) (drop i (ownWords f (startAt m copy))) o (r .sound)) }
+
+    -- the literal there, as the copy's
+    pub offset-says : literalAtReference f m (copy * 256 + i)
+        ≡ literalUnder (fresh copy) (literalOf (getD f (startAt m copy + i) 0) (termsFrom (drop (i + 1) (ownWords f (startAt m copy)))))
+    unfolding literalAtReference wordsAt
+    offset-says = rw (copy-of, offset-of, own-drop f (startAt m copy) i l)
 
     module _ {w : ℕ} (e : w ≡ wordAt f m (copy * 256 + i)) where
       pub offset-stands : WordStands f m (copy * 256 + i) w

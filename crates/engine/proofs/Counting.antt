@@ -9,14 +9,14 @@ use Rattle.words.specs.Fields.{kindOf, arityOf, followingOf}
 use Rattle.rules.specs.Substitution.{Substitution}
 use Rattle.unification.specs.State.{startAt, copiesOf, ownWords, ClauseAt, Points}
 use Rattle.unification.specs.Good.{wordAt, argumentsOf, Ahead, Inside, Good, FollowedTo}
-use Rattle.engine.specs.Writing.{itemsByKind, wordItems, wordsItems, resolved, termItems, copyItems, questionItems, answerHeld, Counted, WordStands}
+use Rattle.engine.specs.Writing.{itemsByKind, wordItems, wordsItems, resolved, termItems, copyItems, keptAt, keptItems, answerHeld, Counted, WordStands}
 use Rattle.engine.specs.declared.answer.Room.{Room}
 use Rattle.engine.specs.declared.answer.Room.the-variants.{Left, Over}
 use Rattle.unification.proofs.References.{few, step-points}
 use Rattle.unification.proofs.Walk.{inside, small}
 use Rattle.engine.proofs.Items.{items-some}
 use Rattle.engine.proofs.CopyWords.{Reached, copy-count, copy-reached, offset-inside, offset-small, offset-reached, offset-stands, offset-items}
-use Rattle.engine.proofs.Questions.{question-there, question-other, items-grow, answer-length}
+use Rattle.engine.proofs.Questions.{kept-there, kept-other, items-grow, answer-length}
 use Rattle.engine.proofs.Resolved.{no-items, step-items, term-stands, stands-free, stands-function, stands-ahead}
 
 pub word-some : (σ : Substitution) (copy w : ℕ) → 0 < length (wordItems σ copy w)
@@ -180,36 +180,36 @@ module _ {f m : List ℕ} {copy : ℕ} (h : Good f m) (c : copy < copiesOf m) wh
               record { whole = g .whole; reached = offset-reached h c (g .reached) inside-own; same = omega (arith, copy-lengths, g .same) }
 
 -- how far the count of the answer has come: so many copies are passed
-pub record CountingAll (f m : List ℕ) (question room copy left : ℕ) : Type 0 where
+pub record CountingAll (f m : List ℕ) (room copy left : ℕ) : Type 0 where
   pub passed : copy ≤ copiesOf m
-  pub same : left + length (questionItems f m question copy) ≡ room
+  pub same : left + length (keptItems f m copy) ≡ room
 
-module _ {f m : List ℕ} {question : ℕ} (h : Good f m) (q : ClauseAt f question) where
-  pub all-begin : {room : ℕ} → CountingAll f m question room 0 room
-  unfolding questionItems
+module _ {f m : List ℕ} (h : Good f m) where
+  pub all-begin : {room : ℕ} → CountingAll f m room 0 room
+  unfolding keptItems
   all-begin = record { passed = omega arith; same = omega arith }
 
-  module _ {room copy left : ℕ} (g : CountingAll f m question room copy left) where
-    pub all-done : copiesOf m ≤ copy → Counted room (length (answerHeld f m question)) (Left left)
+  module _ {room copy left : ℕ} (g : CountingAll f m room copy left) where
+    pub all-done : copiesOf m ≤ copy → Counted room (length (answerHeld f m)) (Left left)
     all-done l =
-        let z : copy ≡ copiesOf m = omega (arith, g .passed) in omega (arith, answer-length q m, rw z at (g .same))
+        let z : copy ≡ copiesOf m = omega (arith, g .passed) in omega (arith, answer-length h, rw z at (g .same))
 
     module _ (l : copy < copiesOf m) where
-      pub all-other : {w : ℕ} → w ≡ copy → (startAt m w ≡ question → ⊥) → CountingAll f m question room (copy + 1) left
+      pub all-other : {w : ℕ} → w ≡ copy → keptAt m w ≡ 0 → CountingAll f m room (copy + 1) left
       all-other e n =
-          let k : startAt m copy ≡ question → ⊥ = rw e at n in
-          record { passed = omega arith; same = rw add-one (omega (arith, g .same, ap length (question-other f m question copy k))) }
+          let k : keptAt m copy ≡ 0 = rw e at n in
+          record { passed = omega arith; same = rw add-one (omega (arith, g .same, ap length (kept-other f m copy k))) }
 
-      module _ {w : ℕ} (e : w ≡ copy) (z : startAt m w ≡ question) (r : Room) (k : Counted left (length (copyItems f m copy)) r) where
-        one-more : length (questionItems f m question (suc copy)) ≡ length (questionItems f m question copy) + length (copyItems f m copy)
-        one-more = ap length (question-there f m question copy (ap (startAt m) (sym e) ∙ z)) ∙ length-append (questionItems f m question copy) _
+      module _ {w : ℕ} (e : w ≡ copy) (z : keptAt m w ≡ 0 → ⊥) (r : Room) (k : Counted left (length (copyItems f m copy)) r) where
+        one-more : length (keptItems f m (suc copy)) ≡ length (keptItems f m copy) + length (copyItems f m copy)
+        one-more = ap length (kept-there f m copy (λ y. z (ap (keptAt m) e ∙ y))) ∙ length-append (keptItems f m copy) _
 
-        pub all-over : r ≡ Over → Counted room (length (answerHeld f m question)) Over
+        pub all-over : r ≡ Over → Counted room (length (answerHeld f m)) Over
         all-over y =
             let o : left < length (copyItems f m copy) = rw y at k in
-            omega (arith, answer-length q m, one-more, items-grow f m question (suc copy) (copiesOf m) (omega arith), g .same)
+            omega (arith, answer-length h, one-more, items-grow f m (suc copy) (copiesOf m) (omega arith), g .same)
 
-        pub all-on : {n : ℕ} → r ≡ Left n → CountingAll f m question room (copy + 1) n
+        pub all-on : {n : ℕ} → r ≡ Left n → CountingAll f m room (copy + 1) n
         all-on {n} y =
             let o : n + length (copyItems f m copy) ≡ left = rw y at k in
             record { passed = omega arith; same = rw add-one (omega (arith, one-more, g .same)) }

@@ -11,8 +11,10 @@ use Rattle.table.specs.Syntax.{Term, Terms, var, app, nil, _then_, under, under
 use Rattle.table.specs.Encode.{termWords, termsWords, literalWords, literalsWords}
 use Rattle.table.specs.Decode.{first, rest}
 use Rattle.rules.specs.Substitution.{Variable, sameVariable}
-use Rattle.rules.specs.Answer.{occurring, occurringIn, occurringAll, seen, firstsAfter, firsts, placeOf, numbered}
-use Rattle.rules.proofs.Unify.Tests.{never, same-refl}
+use Rattle.rules.specs.Answer.{occurring, occurringIn, occurringAll, firstsAfterBy, firstsBy, seen, firstsAfter, placeOf, numbered}
+use Rattle.rules.proofs.FirstPlaces as FirstPlaces
+use Rattle.rules.proofs.Firsts as Firsts
+use Rattle.rules.proofs.Sameness.{variables-told}
 use Rattle.engine.specs.Writing.{Item, fixed, free, itemsOf, itemsAmong, itemsOfAll, also, wordsFrom, seenAfter}
 use Rattle.unification.proofs.TermLists.{arity-under, first-nil}
 
@@ -70,49 +72,18 @@ literals-occurring (l ∷ ls) =
 
 -- a variable's place stays once it is seen
 pub place-left : (x : Variable) (ys zs : List Variable) → seen x ys ≡ true → placeOf x (ys ++ zs) ≡ placeOf x ys
-unfolding seen placeOf
-place-left x [] zs e = absurd (never e refl)
-place-left x (y ∷ ys) zs e = go (sameVariable x y) (place-left x ys zs) e
-  where
-    go : (b : Bool) → (seen x ys ≡ true → placeOf x (ys ++ zs) ≡ placeOf x ys) → cond b true (seen x ys) ≡ true
-        → cond b zero (suc (placeOf x (ys ++ zs))) ≡ cond b zero (suc (placeOf x ys))
-    go true h e = refl
-    go false h e = ap suc (h e)
-
-pub seen-left : (x : Variable) (ys zs : List Variable) → seen x ys ≡ true → seen x (ys ++ zs) ≡ true
-unfolding seen
-seen-left x [] zs e = absurd (never e refl)
-seen-left x (y ∷ ys) zs e = go (sameVariable x y) (seen-left x ys zs) e
-  where
-    go : (b : Bool) → (seen x ys ≡ true → seen x (ys ++ zs) ≡ true) → cond b true (seen x ys) ≡ true → cond b true (seen x (ys ++ zs)) ≡ true
-    go true f e = refl
-    go false f e = f e
+place-left = FirstPlaces.place-left variables-told
 
 -- a variable not yet seen takes the place after the others
 pub seen-last : (x : Variable) (ys : List Variable) → seen x (ys ++ (x ∷ [])) ≡ true
-unfolding seen
-seen-last x [] = rw (same-refl x)
-seen-last x (y ∷ ys) = go (sameVariable x y) (seen-last x ys)
-  where
-    go : (b : Bool) → seen x (ys ++ (x ∷ [])) ≡ true → cond b true (seen x (ys ++ (x ∷ []))) ≡ true
-    go true f = refl
-    go false f = f
+seen-last = Firsts.seen-last variables-told
 
 pub place-last : (x : Variable) (ys : List Variable) → seen x ys ≡ false → placeOf x (ys ++ (x ∷ [])) ≡ length ys
-unfolding seen placeOf
-place-last x [] e = rw (same-refl x)
-place-last x (y ∷ ys) e = go (sameVariable x y) (place-last x ys) e
-  where
-    go : (b : Bool) → (seen x ys ≡ false → placeOf x (ys ++ (x ∷ [])) ≡ length ys) → cond b true (seen x ys) ≡ false
-        → cond b zero (suc (placeOf x (ys ++ (x ∷ [])))) ≡ suc (length ys)
-    go true h e = absurd (never refl e)
-    go false h e = ap suc (h e)
+place-last = FirstPlaces.place-last variables-told
 
 -- and the others keep theirs, seen or not
 pub seen-other : (x y : Variable) (ys : List Variable) → sameVariable x y ≡ false → seen x (ys ++ (y ∷ [])) ≡ seen x ys
-unfolding seen
-seen-other x y [] e = rw e
-seen-other x y (z ∷ ys) e = ap (cond (sameVariable x z) true) (seen-other x y ys e)
+seen-other = Firsts.seen-other variables-told
 
 module _ (before : List Variable) (x : Variable) where
   pub also-known : seen x before ≡ true → also before x ≡ before
@@ -132,7 +103,7 @@ module _ (before : List Variable) (x : Variable) where
       go false e = seen-last x before
 
   firsts-also : (xs : List Variable) → firstsAfter before (x ∷ xs) ≡ firstsAfter (also before x) xs
-  unfolding firstsAfter also
+  unfolding firstsAfterBy also
   firsts-also xs = go (seen x before)
     where
       go : (b : Bool) → cond b (firstsAfter before xs) (firstsAfter (before ++ (x ∷ [])) xs) ≡ firstsAfter (cond b before (before ++ (x ∷ []))) xs
@@ -140,10 +111,10 @@ module _ (before : List Variable) (x : Variable) where
       go false = refl
 
 place-kept : (x : Variable) (before xs : List Variable) → seen x before ≡ true → placeOf x (firstsAfter before xs) ≡ placeOf x before
-unfolding firstsAfter
+unfolding firstsAfterBy
 place-kept x before [] e = refl
 place-kept x before (y ∷ xs) e =
-    go (seen y before) (place-kept x before xs e) (place-kept x (before ++ (y ∷ [])) xs (seen-left x before (y ∷ []) e) ∙ place-left x before (y ∷ []) e)
+    go (seen y before) (place-kept x before xs e) (place-kept x (before ++ (y ∷ [])) xs (Firsts.seen-left variables-told x before (y ∷ []) e) ∙ place-left x before (y ∷ []) e)
   where
     go : (b : Bool) → placeOf x (firstsAfter before xs) ≡ placeOf x before → placeOf x (firstsAfter (before ++ (y ∷ [])) xs) ≡ placeOf x before
         → placeOf x (cond b (firstsAfter before xs) (firstsAfter (before ++ (y ∷ [])) xs)) ≡ placeOf x before
@@ -160,7 +131,7 @@ numbered-from (free x ∷ is) before =
     (ap₂ _∷_ (place-kept x (also before x) (variablesIn is) (also-seen before x)) (numbered-from is (also before x)))
 
 pub answer-items : (ls : List (Literal Variable)) → literalsWords (numbered ls) ≡ wordsFrom [] (itemsOfAll ls)
-unfolding numbered firsts
+unfolding numbered firstsBy
 answer-items ls =
     literals-words (λ x. placeOf x (firstsAfter [] (occurringAll ls))) ls
     ∙ ap (λ (xs : List Variable). map (wordBy (λ x. placeOf x (firstsAfter [] xs))) (itemsOfAll ls)) (literals-occurring ls)

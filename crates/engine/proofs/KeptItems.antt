@@ -8,10 +8,9 @@ use Rattle.table.specs.Syntax.{Terms, under, unders}
 use Rattle.table.specs.Decode.{first}
 use Rattle.rules.specs.Substitution.{Variable, Substitution}
 use Rattle.rules.specs.Machinery.Unify.{solution}
-use Rattle.unification.specs.State.{copiesOf, countOf}
-use Rattle.tableaux.specs.Leaves.{questionsAmong}
+use Rattle.unification.specs.State.{copiesOf, countOf, bound}
 use Rattle.unification.specs.Good.{Same, Good, Ahead}
-use Rattle.engine.specs.Writing.{itemsOf, itemsAmong, resolved, termItems, copyItems, answerHeld}
+use Rattle.engine.specs.Writing.{itemsOf, itemsAmong, resolved, termItems, copyItems}
 use Rattle.unification.proofs.Bound.{Copied, kept-copied, kept-clauses, same-terms, same-points}
 use Rattle.unification.proofs.Stores.{Change, same-bindings, same-held}
 
@@ -40,8 +39,11 @@ module _ {f m m′ : List ℕ} (h : Good f m) (s : Same 0 1168 m m′) where
     pub good-kept : Good f m′
     good-kept = rw kept-count (same-held h (change size) (kept-clauses h starts))
 
+    pub bound-kept : bound f m′ ≡ bound f m
+    bound-kept = rw kept-count (same-bindings h (change size) (countOf m) (omega arith))
+
     pub resolved-kept : resolved f m′ ≡ resolved f m
-    resolved-kept = ap solution (rw kept-count (same-bindings h (change size) (countOf m) (omega arith)))
+    resolved-kept = ap solution bound-kept
 
     pub items-kept : (r n : ℕ) → Ahead f m r n → termItems f m′ r n ≡ termItems f m r n
     unfolding termItems first under itemsOf
@@ -56,15 +58,3 @@ module _ {f m m′ : List ℕ} (h : Good f m) (s : Same 0 1168 m m′) where
 
   pub ahead-kept : (r n : ℕ) → Ahead f m r n → Ahead f m′ r n
   ahead-kept r n a l = same-points copied f r (a l .made) (a l)
-
-  questions-upto : (question n : ℕ) → n ≤ copiesOf m → questionsAmong m′ question n ≡ questionsAmong m question n
-  unfolding questionsAmong
-  questions-upto question zero l = refl
-  questions-upto question (suc n) l = rw (copied .starts n (omega arith), questions-upto question n (omega arith))
-
-  pub questions-kept : (question : ℕ) → questionsAmong m′ question (copiesOf m′) ≡ questionsAmong m question (copiesOf m)
-  questions-kept question = ap (questionsAmong m′ question) kept-copies ∙ questions-upto question (copiesOf m) (omega arith)
-
-  pub answer-kept : length m′ ≡ length m → (question : ℕ) → answerHeld f m′ question ≡ answerHeld f m question
-  unfolding answerHeld
-  answer-kept size question = rw (resolved-kept size, questions-kept question)

@@ -15,6 +15,7 @@ pub mod KeptItems
 pub mod Writing
 pub mod WritingTerms
 pub mod WritingAll
+pub mod Repeats
 pub mod CheckLineage
 pub mod Performed
 pub mod CheckSteps

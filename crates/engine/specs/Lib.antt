@@ -1,4 +1,5 @@
 pub mod Writing
+pub mod Repeats
 pub mod Performing
 pub mod Ended
 pub mod Checking

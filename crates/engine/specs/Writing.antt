@@ -1,6 +1,6 @@
 -- Machinery: an answer as a list of words whose variables have no number yet, how it is counted and how it is written. No public contract speaks of it.
 use lib.Dec.{eqb}
-use lib.ListN.{length, drop}
+use lib.ListN.{length, drop, getD}
 use lib.Seq.{sets}
 use mathlib.Core.Bool.{false, cond}
 use mathlib.Core.List.{List, [], _∷_, _++_, map}
@@ -14,7 +14,6 @@ use Rattle.rules.specs.Substitution.{Variable, Substitution}
 use Rattle.rules.specs.Machinery.Unify.{solution}
 use Rattle.rules.specs.Answer.{disjunct, seen, placeOf, numbered, joined}
 use Rattle.unification.specs.State.{startAt, copiesOf, markAt, ownWords, termsOf, Points, variableOf, bound}
-use Rattle.tableaux.specs.Leaves.{questionsAmong}
 use Rattle.unification.specs.Good.{wordAt, Same}
 use Rattle.engine.specs.declared.answer.Room.{Room}
 use Rattle.engine.specs.declared.answer.Room.the-variants.{Left, Over}
@@ -84,18 +83,35 @@ resolved f m = solution (bound f m)
 unfoldable pub termItems : List ℕ → List ℕ → ℕ → ℕ → List Item
 termItems f m r n = itemsAmong (unders (resolved f m) (first n (termsOf f m r)))
 
--- a copy's literals, and those of the copies of the question among so many copies
+-- a copy's literals
 unfoldable pub copyItems : List ℕ → List ℕ → ℕ → List Item
 copyItems f m copy = wordsItems (resolved f m) copy (drop 1 (ownWords f (startAt m copy)))
 
-unfoldable pub questionItems : List ℕ → List ℕ → ℕ → ℕ → List Item
-questionItems f m question zero = []
-questionItems f m question (suc n) = questionItems f m question n ++ cond (eqb (startAt m n) question) (copyItems f m n) []
+-- the copies that are kept among so many, and their literals
+abbrev pub keptAt : List ℕ → ℕ → ℕ
+keptAt m copy = getD m (2768 + copy) 0
 
--- the answer (the rules' answerWords) of what the work words hold
-unfoldable pub answerHeld : List ℕ → List ℕ → ℕ → List ℕ
-answerHeld f m question =
-    literalsWords (numbered (joined (map (disjunct (resolved f m) (clauseOf (ownWords f question))) (questionsAmong m question (copiesOf m)))))
+unfoldable pub keptAmong : List ℕ → ℕ → List ℕ
+keptAmong m zero = []
+keptAmong m (suc n) = keptAmong m n ++ cond (eqb (keptAt m n) 0) [] (n ∷ [])
+
+unfoldable pub keptItems : List ℕ → List ℕ → ℕ → List Item
+keptItems f m zero = []
+keptItems f m (suc n) = keptItems f m n ++ cond (eqb (keptAt m n) 0) [] (copyItems f m n)
+
+-- what a copy says, and what the copies say that are kept
+abbrev pub disjunctAt : List ℕ → List ℕ → ℕ → List (Literal Variable)
+disjunctAt f m copy = disjunct (resolved f m) (clauseOf (ownWords f (startAt m copy))) copy
+
+unfoldable pub disjunctsKept : List ℕ → List ℕ → List (List (Literal Variable))
+disjunctsKept f m = map (disjunctAt f m) (keptAmong m (copiesOf m))
+
+-- the words of an answer (the rules' answerWords), and of the one that is kept
+abbrev pub wordsOf : List (List (Literal Variable)) → List ℕ
+wordsOf ds = literalsWords (numbered (joined ds))
+
+abbrev pub answerHeld : List ℕ → List ℕ → List ℕ
+answerHeld f m = wordsOf (disjunctsKept f m)
 
 -- so many words fit, and so much room is left; or they do not
 abbrev pub Counted : ℕ → ℕ → Room → Type 0
@@ -140,8 +156,8 @@ abbrev pub Unmarked : List ℕ → Type 0
 Unmarked m = (v : ℕ) → v < 528 → markAt m v ≡ 0
 
 -- the answer stands at the front of its buffer, and later words are unchanged
-pub record Answered (f m a : List ℕ) (question : ℕ) (m′ a′ : List ℕ) (r : Answer) : Type 0 where
+pub record Answered (f m a m′ a′ : List ℕ) (r : Answer) : Type 0 where
   pub kept : Remarked m m′
-  pub answer : a′ ≡ answerHeld f m question ++ drop (length (answerHeld f m question)) a
-  pub words : r .words ≡ length (answerHeld f m question)
-  pub disjuncts : r .disjuncts ≡ length (questionsAmong m question (copiesOf m))
+  pub answer : a′ ≡ answerHeld f m ++ drop (length (answerHeld f m)) a
+  pub words : r .words ≡ length (answerHeld f m)
+  pub disjuncts : r .disjuncts ≡ length (disjunctsKept f m)

@@ -6,7 +6,7 @@ ghost use mathlib.Core.Path.{_≡_};
 ghost use mathlib.Core.List.{List, [], _∷_};
 ghost use Prim.Native.Nat.{ℕ, _/_, min, _≤_, _<_};
 ghost use lib.ListN.{length};
-ghost use Rattle.unification.specs.State.{copiesOf, ClauseAt, variableOf};
+ghost use Rattle.unification.specs.State.{copiesOf, variableOf};
 ghost use Rattle.unification.specs.Good.{Good, Ahead};
 ghost use Rattle.engine.specs.Writing.{fixed, free, wordItems, termItems, copyItems, resolved, answerHeld};
 ghost use Rattle.engine.specs.Writing.{Counted, WordStands, RoomFor, Wrote, Unmarked, Answered};
@@ -91,16 +91,15 @@ fn room_after_copy(file: &[u32], work: &[u32], copy: u32, room: usize) -> Room
 }
 
 // The room left after the answer.
-pub fn room_after(file: &[u32], work: &[u32], question: u32, room: usize) -> Room
-    requires { ⌜ Good (now file) (now work) × ClauseAt (now file) question ⌝ }
-    ensures { λ r. ⌜ Counted room (length (answerHeld (now (file .entry)) (now (work .entry)) question)) r ⌝ }
+pub fn room_after(file: &[u32], work: &[u32], room: usize) -> Room
+    requires { ⌜ Good (now file) (now work) ⌝ }
+    ensures { λ r. ⌜ Counted room (length (answerHeld (now (file .entry)) (now (work .entry)))) r ⌝ }
 {
     let copies = work[memory::COPIES];
     let mut left = room;
     let mut copy: u32 = 0;
     while copy < copies {
-        let start = work[memory::STARTS + fields::wide(copy)];
-        if start != question {
+        if work[memory::KEPT + fields::wide(copy)] == 0 {
             copy += 1;
             continue;
         }
@@ -223,11 +222,11 @@ fn write_copy(
     written
 }
 
-// The answer, for which there is room: one disjunct for each copy of the question, in order.
-pub fn write(file: &[u32], work: &mut [u32], answer: &mut [u32], question: u32) -> Answer
-    requires { ⌜ Good (now file) (now work) × ClauseAt (now file) question × Unmarked (now work) ⌝ }
-    requires { ⌜ (length (answerHeld (now file) (now work) question) ≤ length (now answer)) × (length (answerHeld (now file) (now work) question) ≤ 4294967295) ⌝ }
-    ensures { λ r. ⌜ Answered (now (file .entry)) (now (work .entry)) (now (answer .entry)) question (now (work .exit)) (now (answer .exit)) r ⌝ }
+// The answer, for which there is room: one disjunct for each copy that is kept, in order.
+pub fn write(file: &[u32], work: &mut [u32], answer: &mut [u32]) -> Answer
+    requires { ⌜ Good (now file) (now work) × Unmarked (now work) ⌝ }
+    requires { ⌜ (length (answerHeld (now file) (now work)) ≤ length (now answer)) × (length (answerHeld (now file) (now work)) ≤ 4294967295) ⌝ }
+    ensures { λ r. ⌜ Answered (now (file .entry)) (now (work .entry)) (now (answer .entry)) (now (work .exit)) (now (answer .exit)) r ⌝ }
 {
     let copies = work[memory::COPIES];
     let mut written = Written {
@@ -237,8 +236,7 @@ pub fn write(file: &[u32], work: &mut [u32], answer: &mut [u32], question: u32) 
     let mut disjuncts: u32 = 0;
     let mut copy: u32 = 0;
     while copy < copies {
-        let start = work[memory::STARTS + fields::wide(copy)];
-        if start != question {
+        if work[memory::KEPT + fields::wide(copy)] == 0 {
             copy += 1;
             continue;
         }

@@ -28,7 +28,8 @@ use Rattle.rules.proofs.ClosedTableaux.{larger-bound, larger-table, step-number
 use Rattle.rules.proofs.Demands.{passed-closed, closed-passed, accepted-has-answer, one-answer, one-ending, runs-out-exactly, tries-are-those-made, none-exactly, found-is-first, one-check-verdict, answers-hold, larger-budget, short-clauses, not-enough}
 use Rattle.rules.proofs.Lengths.{InRange}
 use Rattle.rules.proofs.Lists.{All}
-use Rattle.rules.specs.Answer.{answerWords}
+use Rattle.rules.specs.Answer.{disjuncts, answerWords}
+use Rattle.rules.proofs.Locality.{same-disjuncts, same-words}
 use Rattle.rules.specs.Substitution.{Substitution, MostGeneral}
 use Rattle.hukolearu.specs.Calls as Calls
 use Rattle.hukolearu.specs.Door.{Fault, firstFault, checks, behind}
@@ -165,9 +166,9 @@ module _ (I : Interpretation) (S : Setting) (limits : Within (S .table)) (low : 
       → TrueAnswer I (S .table .question) count words
   words-hold {steps} c {count} {words} a =
       let p = closed-passed S steps c in
-      let b : Answers (S .table) (c .tableau) (disjunctsOf (p .0)) (answerOf (S .table) (p .0)) =
-      subst (λ (x : Tableau). Answers (S .table) x (disjunctsOf (p .0)) (answerOf (S .table) (p .0))) (p .2) (accepted-has-answer S steps (p .0) (p .1)) in
-      let same = one-answer (S .table) (c .tableau) count (disjunctsOf (p .0)) words (answerOf (S .table) (p .0)) a b in
+      let b : Answers (S .table) (c .tableau) (disjunctsOf (S .table) (p .0)) (answerOf (S .table) (p .0)) =
+      subst (λ (x : Tableau). Answers (S .table) x (disjunctsOf (S .table) (p .0)) (answerOf (S .table) (p .0))) (p .2) (accepted-has-answer S steps (p .0) (p .1)) in
+      let same = one-answer (S .table) (c .tableau) count (disjunctsOf (S .table) (p .0)) words (answerOf (S .table) (p .0)) a b in
       rw (same .0, same .1) (answers-hold I S limits low negative hold steps (p .0) (p .1))
 
   pub found-holds : {budget room : ℕ} {g : Given} → SearchSays S budget room g → g .outcome .status ≡ 0 → Demands.WordsHold I (S .table) g
@@ -226,13 +227,13 @@ module _ {t u : Table} (grown : Larger t u) (few : length (allClauses u) ≤ 512
       let s = moved grown (stepOf w) in
       rw (decode-encode s (formed (base u bound) few low s (r .0)), words-moved ws (r .1))
 
-answers-again : {t u : Table} {x y : Tableau} {count : ℕ} {words : List ℕ} → x ≡ y → ((σ : Substitution) → answerWords σ u y ≡ answerWords σ t x)
+answers-again : {t u : Table} {x y : Tableau} {count : ℕ} {words : List ℕ} → x ≡ y → t .question ≡ u .question
     → Answers t x count words → Answers u y count words
-answers-again e same a = record {
+answers-again {t} {u} {x} {y} e same a = record {
   by = a .by;
   general = subst (λ (z : Tableau). MostGeneral (a .by) (z .pairs)) e (a .general);
-  counted = a .counted ∙ ap (λ (z : Tableau). length (z .questions)) e;
-  written = a .written ∙ sym (same (a .by));
+  counted = a .counted ∙ ap (λ (z : Tableau). length (disjuncts (a .by) t z)) e ∙ sym (ap length (same-disjuncts (a .by) t u y same));
+  written = a .written ∙ ap (answerWords (a .by) t) e ∙ sym (same-words (a .by) t u y same);
 }
 
 module _ {t u : Table} (grown : Larger t u) (limits : Within u) {bound higher : ℕ} (low : higher ≤ 32) (l : bound ≤ higher) (offered : List ℕ) where
@@ -249,7 +250,7 @@ module _ {t u : Table} (grown : Larger t u) (limits : Within u) {bound higher : 
       words-moved grown (limits .few) low offered (step-numbers (base u higher) (short-clauses (allClauses u) (limits .clauses)) (h .0)) in
       let e : x ≡ h .0 .tableau = sym (h .1 ∙ g .1) in
       let b : Answers u (h .0 .tableau) count words =
-      answers-again e (λ σ. ap (answerWords σ u) (h .1) ∙ g .2 σ) a in
+      answers-again e (grown .question) a in
       let k : Checks (base u higher) (start u) 0 (map stepOf (map (Demands.movedWord grown) offered)) (accepted (h .0 .tableau)) =
       rw same (closed-accepted (base u higher) (h .0)) in
       rw (← length-map offered (Demands.movedWord grown)) (closed-fitting k b (omega arith))

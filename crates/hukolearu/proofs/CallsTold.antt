@@ -1,28 +1,30 @@
 -- What a call tells, outcome by outcome: each law goes from what a function below the public calls knows to what it promises.
 use mathlib.Core.Bool.{Bool, true, false, not}
-use mathlib.Core.List.{List, [], map}
-use mathlib.Core.Path.{_≡_, refl, sym, _∙_, subst}
-use Prim.Native.Nat.{ℕ, _+_, _-_, _≤_, _<_}
+use mathlib.Core.List.{List, [], _∷_, map}
+use mathlib.Core.Path.{_≡_, refl, sym, _∙_, ap, ap₂, subst}
+use Prim.Native.Nat.{ℕ, zero, suc, _+_, _-_, _≤_, _<_}
 use native.Mathlib.Omega.{arith}
 use borrow.Author.Tests.{le-leb, lt-leb, leb-true, not-true, not-false}
 use lib.Dec.{leb}
-use lib.ListN.{length, take, drop}
-use lib.Seq.{length-take-le}
+use lib.ListN.{length, take, drop, getD}
+use lib.Seq.{length-take-le, drop-cons}
 use Rattle.words.specs.Steps.{stepOf}
 use Rattle.table.specs.File.{judge, tableIn}
 use Rattle.rules.specs.Setting.{base}
-use Rattle.rules.specs.Answer.{answerWords, disjuncts}
+use Rattle.rules.specs.Answer.{answerWords, perCopy, disjuncts}
+use Rattle.rules.specs.Machinery.Unify.{solution}
+use Rattle.rules.specs.Substitution.{Variable}
+use Rattle.table.specs.Syntax.{Literal}
 use Rattle.rules.specs.Machinery.Play.{Play, check, searchFor, disjunctsOf}
 use Rattle.rules.specs.Machinery.Play as Play
-use Rattle.unification.specs.State.{copiesOf}
-use Rattle.tableaux.specs.Leaves.{questionsAmong}
 use Rattle.hukolearu.specs.Calls.{Given, refused, granted, roomOf, answered, checkGiven, foundGiven, searchGiven, refusedBy, SearchAsked, searchInputs, searchSetting, searchCall, CheckAsked, checkInputs, checkSetting, checkCall, atFront}
 use Rattle.engine.specs.Ended.{Ended}
-use Rattle.engine.specs.Writing.{answerHeld, Counted, Answered}
+use Rattle.engine.specs.Writing.{wordsOf, disjunctsKept, answerHeld, Counted, Answered}
+use Rattle.engine.specs.Repeats.{disjunctsHeld, Chose}
 use Rattle.engine.specs.Searching.{Ends}
 use Rattle.engine.specs.Checking.{RefusedAs, Decided}
 use Rattle.hukolearu.specs.Enums.{byEnding, byVerdict, byRoom}
-use Rattle.hukolearu.specs.Telling.{Told, Passed, Answerable, Writable, held}
+use Rattle.hukolearu.specs.Telling.{Told, Passed, Answerable, Fits, Writable, held}
 use Rattle.hukolearu.specs.declared.Outcome.{Outcome}
 use Rattle.engine.specs.declared.check.Verdict.{Verdict}
 use Rattle.engine.specs.declared.check.Verdict.the-variants.{Accepted, Refused}
@@ -53,16 +55,20 @@ tells e t = rw e t
 module _ (f : List ℕ) (judged : judge f .status ≡ 0) {question : ℕ} (asked : question ≡ judge f .question) where
   -- the work words hold a play at its end: its answer is theirs
   module _ {m : List ℕ} {p : Play} (e : Ended f m question p) where
-    pub answerable : Answerable f m question
-    answerable = record { good = e .good; asked = question-stands f judged asked .0; unmarked = e .unnumbered }
+    pub answerable : Answerable f m
+    answerable = record { good = e .good; unmarked = e .unnumbered }
 
-    same-answer : answerHeld f m question ≡ Play.answerOf (tableIn f) p
-    unfolding answerHeld Play.answerOf answerWords disjuncts
-    same-answer = rw (e .bindings, e .questions, question-stands f judged asked .1)
+    same-disjuncts : disjunctsHeld f m question ≡ disjuncts (solution (p .bindings)) (tableIn f) (p .tableau)
+    unfolding disjunctsHeld disjuncts perCopy
+    same-disjuncts = rw (e .bindings, e .questions, question-stands f judged asked .1)
 
-    same-count : length (questionsAmong m question (copiesOf m)) ≡ disjunctsOf p
+    same-answer : wordsOf (disjunctsHeld f m question) ≡ Play.answerOf (tableIn f) p
+    unfolding Play.answerOf answerWords
+    same-answer = ap wordsOf same-disjuncts
+
+    same-count : length (disjunctsHeld f m question) ≡ disjunctsOf (tableIn f) p
     unfolding disjunctsOf
-    same-count = rw (e .questions)
+    same-count = ap length same-disjuncts
 
     pub held-answered : (steps : ℕ) (proof : List ℕ) (tries room : ℕ) → answered (tableIn f) steps proof tries room p ≡ held f m question steps proof tries room
     unfolding answered held
@@ -82,7 +88,7 @@ module _ (f m : List ℕ) (question bound budget : ℕ) (ended : Searched) (h : 
   pub found-few : ended .ending ≡ AFound → ended .steps ≤ 199
   found-few e = as-ended e .few
 
-  pub found-answerable : {m₀ : List ℕ} → Passed f m₀ question bound → ended .ending ≡ AFound → Answerable f m question
+  pub found-answerable : {m₀ : List ℕ} → Passed f m₀ question bound → ended .ending ≡ AFound → Answerable f m
   found-answerable p e = answerable f (p .judged) (p .asked) (as-ended e .ended)
 
   pub nothing-given : (room : ℕ) → ended .ending ≡ Nothing
@@ -130,7 +136,7 @@ module _ (f m : List ℕ) (question bound : ℕ) (offered : List ℕ) {v : Verdi
   as-decided : {w : Verdict} → v ≡ w → Decided f m question bound offered w
   as-decided e = subst (λ (x : Verdict). Decided f m question bound offered x) e h
 
-  pub accepted-answerable : {m₀ : List ℕ} {steps : ℕ} → Passed f m₀ question bound → v ≡ Accepted steps → Answerable f m question
+  pub accepted-answerable : {m₀ : List ℕ} {steps : ℕ} → Passed f m₀ question bound → v ≡ Accepted steps → Answerable f m
   accepted-answerable p e = answerable f (p .judged) (p .asked) (as-decided e .ended)
 
   pub refused-given : {status place : ℕ} (room : ℕ) → v ≡ Refused status place
@@ -153,30 +159,53 @@ check-by-verdict f m question bound offered (Refused status place) h room p = re
 
 pub ruleset check-laws = (accepted-answerable, refuses, tells, refused-given, accepted-given)
 
+-- the same words stand in a part of two lists
+part-same : (n a : ℕ) (m m′ : List ℕ) → a + n ≤ length m → length m′ ≡ length m → ((i : ℕ) → a ≤ i → i < a + n → getD m′ i 0 ≡ getD m i 0)
+    → take n (drop a m′) ≡ take n (drop a m)
+part-same zero a m m′ l e h = refl
+part-same (suc n) a m m′ l e h =
+    rw (drop-cons m a 0 (omega arith), drop-cons m′ a 0 (omega arith))
+    (ap₂ _∷_ (h a (omega arith) (omega arith)) (part-same n (suc a) m m′ (omega arith) e (λ i b c. h i (omega arith) (omega arith))))
+
 -- the answer fits, or does not
-module _ (f m : List ℕ) (question room : ℕ) {fits : Bool} (e : fits ≡ leb (length (answerHeld f m question)) (roomOf room)) where
+module _ {f m m′ : List ℕ} {question room : ℕ} {fits : Bool} (h : Fits f m m′ question room fits) where
   pub held-over : (steps : ℕ) (proof : List ℕ) (tries : ℕ) → not fits ≡ true → held f m question steps proof tries room ≡ refused 16 0 tries
   unfolding held
-  held-over steps proof tries n = rw (← e, not-true fits n)
+  held-over steps proof tries n = rw (← (h .says), not-true fits n)
 
   held-fitting : (steps : ℕ) (proof : List ℕ) (tries : ℕ) → not fits ≡ false
-      → held f m question steps proof tries room ≡ granted steps proof (length (questionsAmong m question (copiesOf m))) (answerHeld f m question) tries
+      → held f m question steps proof tries room ≡ granted steps proof (length (disjunctsKept f m′)) (answerHeld f m′) tries
   unfolding held
-  held-fitting steps proof tries n = rw (← e, not-false fits n)
+  held-fitting steps proof tries n = rw (← (h .says), not-false fits n, h .chose .once)
 
   pub fit-told : {r : Outcome} (steps tries : ℕ) (words proof : List ℕ) {proof′ answer answer′ : List ℕ} → not fits ≡ false
-      → Told (granted steps [] (length (questionsAmong m question (copiesOf m))) (answerHeld f m question) tries) r [] [] answer answer′
+      → Told (granted steps [] (length (disjunctsKept f m′)) (answerHeld f m′) tries) r [] [] answer answer′
       → proof′ ≡ atFront words proof → Told (held f m question steps words tries room) r proof proof′ answer answer′
   fit-told steps tries words proof n t e = rw (held-fitting steps words tries n) (record { numbers = t .numbers; steps = e; words = t .words })
 
-pub fit-writable : (f m a : List ℕ) (question : ℕ) {fits : Bool} → fits ≡ leb (length (answerHeld f m question)) (roomOf (length a)) → not fits ≡ false
-    → Answerable f m question → Writable f m question a
-fit-writable f m a question {fits} e n h =
-    let l : length (answerHeld f m question) ≤ roomOf (length a) = leb-true _ _ (sym e ∙ not-false fits n) in
-    record { answerable = h; inside = omega arith; small = omega arith }
+  -- the steps stand where they stood
+  pub found-told : {r : Outcome} (steps tries : ℕ) (proof : List ℕ) {proof′ answer answer′ : List ℕ} → Answerable f m → steps ≤ 199 → not fits ≡ false
+      → Told (granted steps [] (length (disjunctsKept f m′)) (answerHeld f m′) tries) r [] [] answer answer′
+      → proof′ ≡ atFront (take steps (drop 1984 m′)) proof → Told (held f m question steps (take steps (drop 1984 m)) tries room) r proof proof′ answer answer′
+  found-told steps tries proof a few n t e =
+      let same =
+      part-same steps 1984 m m′ (omega (arith, a .good .size)) (h .chose .good .size ∙ sym (a .good .size))
+      (λ i b c. h .chose .leaves .words i (omega arith) (omega arith)) in
+      fit-told steps tries (take steps (drop 1984 m)) proof n t (e ∙ ap (λ (ws : List ℕ). atFront ws proof) same)
 
-pub wrote-told : {f m a m′ a′ : List ℕ} {question : ℕ} {w : Answer} (proof tries : ℕ) → Answered f m a question m′ a′ w
-    → Told (granted proof [] (length (questionsAmong m question (copiesOf m))) (answerHeld f m question) tries)
+  pub chosen-answerable : Answerable f m → Answerable f m′
+  chosen-answerable a =
+      record { good = h .chose .good; unmarked = λ v l. h .chose .leaves .words (2240 + v) (omega arith) (omega arith) ∙ a .unmarked v l }
+
+pub fit-writable : {f m m′ : List ℕ} {question : ℕ} (a : List ℕ) {fits : Bool} → Fits f m m′ question (length a) fits → not fits ≡ false
+    → Answerable f m → Writable f m′ a
+fit-writable {f} {m} {m′} {question} a {fits} h n k =
+    let l : length (wordsOf (disjunctsHeld f m question)) ≤ roomOf (length a) = leb-true _ _ (sym (h .says) ∙ not-false fits n) in
+    let kept : length (answerHeld f m′) ≡ length (wordsOf (disjunctsHeld f m question)) = ap (λ (ds : List (List (Literal Variable))). length (wordsOf ds)) (h .chose .once) in
+    record { answerable = chosen-answerable h k; inside = omega arith; small = omega arith }
+
+pub wrote-told : {f m a m′ a′ : List ℕ} {w : Answer} (proof tries : ℕ) → Answered f m a m′ a′ w
+    → Told (granted proof [] (length (disjunctsKept f m)) (answerHeld f m) tries)
     (record { status = 0; place = 0; proof = proof; disjuncts = w .disjuncts; answer = w .words; tries = tries }) [] [] a a′
 wrote-told proof tries h = record { numbers = rw (h .words, h .disjuncts); steps = refl; words = h .answer }
 
@@ -190,17 +219,24 @@ fits-left {q} {room} {left} words needed e counted o =
     let over : left + needed ≡ room = subst (λ (x : Room). Counted room needed x) o counted in
     sym (le-leb needed (roomOf words) (omega arith))
 
-pub held-by-room : (f m : List ℕ) (question steps : ℕ) (proof : List ℕ) (tries words : ℕ) (q : Room)
-    → Counted (roomOf words) (length (answerHeld f m question)) q
-    → held f m question steps proof tries words
-    ≡ byRoom q tries (granted steps proof (length (questionsAmong m question (copiesOf m))) (answerHeld f m question) tries)
-unfolding held
-held-by-room f m question steps proof tries words (Left left) counted =
-    rw (← fits-left words (length (answerHeld f m question)) refl counted refl)
-held-by-room f m question steps proof tries words Over counted =
-    rw (← fits-over words (length (answerHeld f m question)) refl counted refl)
+-- as the count of what was chosen ended
+module _ {f m m′ : List ℕ} {question : ℕ} (c : Chose f m m′ question) (q : Room) {room : ℕ} (words : ℕ) (e : room ≡ roomOf words) (counted : Counted room (length (answerHeld f m′)) q) where
+  same-length : length (answerHeld f m′) ≡ length (wordsOf (disjunctsHeld f m question))
+  same-length = ap (λ (ds : List (List (Literal Variable))). length (wordsOf ds)) (c .once)
 
-pub ruleset fit-laws = (fits-over, fits-left)
+  pub chosen-over : q ≡ Over → Fits f m m′ question words false
+  chosen-over o = record { chose = c; says = fits-over words _ e counted o ∙ ap (λ (n : ℕ). leb n (roomOf words)) same-length }
+
+  pub chosen-left : {left : ℕ} → q ≡ Left left → Fits f m m′ question words true
+  chosen-left o = record { chose = c; says = fits-left words _ e counted o ∙ ap (λ (n : ℕ). leb n (roomOf words)) same-length }
+
+pub held-by-room : (f m m′ : List ℕ) (question steps : ℕ) (proof : List ℕ) (tries words : ℕ) (q : Room) → Chose f m m′ question
+    → Counted (roomOf words) (length (answerHeld f m′)) q
+    → held f m question steps proof tries words ≡ byRoom q tries (granted steps proof (length (disjunctsKept f m′)) (answerHeld f m′) tries)
+held-by-room f m m′ question steps proof tries words (Left left) c counted = held-fitting (chosen-left c (Left left) words refl counted refl) steps proof tries refl
+held-by-room f m m′ question steps proof tries words Over c counted = held-over (chosen-over c Over words refl counted refl) steps proof tries refl
+
+pub ruleset fit-laws = (chosen-over, chosen-left)
 
 pub ruleset answer-laws = (refuses, held-over, fit-told, fit-writable, wrote-told)
 

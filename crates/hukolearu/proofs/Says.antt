@@ -40,7 +40,7 @@ check-accepted a ok =
 -- the answer fits, or does not
 module _ (t : Table) (steps : ℕ) (proof : List ℕ) (tries room : ℕ) (p : Play) where
   pub fitting : length (answerOf t p) ≤ roomOf room
-      → answered t steps proof tries room p ≡ granted steps proof (disjunctsOf p) (answerOf t p) tries
+      → answered t steps proof tries room p ≡ granted steps proof (disjunctsOf t p) (answerOf t p) tries
   unfolding answered
   fitting h = rw (le-leb (length (answerOf t p)) (roomOf room) h)
 
@@ -60,11 +60,11 @@ module _ (S : Setting) (budget room : ℕ) where
       let passes = closed-passed S steps c in
       let p = passes .0 in
       let back = passed-closed S steps p (passes .1) in
-      let answers : Answers (S .table) (back .0 .tableau) (disjunctsOf p) (answerOf (S .table) p) =
+      let answers : Answers (S .table) (back .0 .tableau) (disjunctsOf (S .table) p) (answerOf (S .table) p) =
       rw (back .1) (accepted-has-answer S steps p (passes .1)) in
       rw (passes .1) (go p (back .0) answers (decLt (roomOf room) (length (answerOf (S .table) p))))
     where
-      go : (p : Play) (c : Closed S steps) → Answers (S .table) (c .tableau) (disjunctsOf p) (answerOf (S .table) p) → Dec (roomOf room < length (answerOf (S .table) p))
+      go : (p : Play) (c : Closed S steps) → Answers (S .table) (c .tableau) (disjunctsOf (S .table) p) (answerOf (S .table) p) → Dec (roomOf room < length (answerOf (S .table) p))
           → SearchSays S budget (roomOf room) (answered (S .table) (length steps) (map stepWord steps) tries room p)
       go p c a (yes l) = rw (too-long (S .table) (length steps) (map stepWord steps) tries room p l) (found-too-long d enough c a l)
       go p c a (no n) = let l : length (answerOf (S .table) p) ≤ roomOf room = omega arith in

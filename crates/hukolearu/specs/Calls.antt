@@ -47,7 +47,7 @@ roomOf words = min words 4294967295
 
 unfoldable pub answered : Table → ℕ → List ℕ → ℕ → ℕ → Play → Given
 answered t steps proof tries room p =
-    cond (leb (length (answerOf t p)) (roomOf room)) (granted steps proof (disjunctsOf p) (answerOf t p) tries) (refused Status.answerTooLong 0 tries)
+    cond (leb (length (answerOf t p)) (roomOf room)) (granted steps proof (disjunctsOf t p) (answerOf t p) tries) (refused Status.answerTooLong 0 tries)
 
 -- the checker: 12 to 15 or 20 with the place of the step; on 0 the step count as proof words, with tries 0, and no proof is written
 unfoldable pub checkGiven : Table → ℕ → ℕ → Checking → Given

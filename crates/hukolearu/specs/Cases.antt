@@ -1,4 +1,4 @@
--- Document 01's questions to try, the starred ones, as one statement over the public calls: files as words, bounds, budgets and buffers in,
+-- Document 01's questions to try, the starred ones, and order 3's, as one statement over the public calls: files as words, bounds, budgets and buffers in,
 -- the six numbers and the words of proof and answer out. proofs/CallCases.antt proves it by computation.
 use lib.ListN.{length}
 use mathlib.Core.List.{List, [], _∷_, map}
@@ -65,6 +65,16 @@ allAtOnce =
     ∷ 0xC0000512 ∷ 0x8000A001 ∷ 0x00000000 ∷ 0x00000001 ∷ 0x80009002 ∷ 0x00000000
     ∷ 0x00000011 ∷ 0x00000004 ∷ 0x29AB8D6B ∷ 0x00000017 ∷ []
 
+-- order 3: p(a); r or p(a); r or s; not s; ask p(X) and r
+abbrev pub toldTwice : List ℕ
+toldTwice =
+    0xC0000201 ∷ 0x80001001 ∷ 0x40000001
+    ∷ 0xC0000302 ∷ 0x80000002 ∷ 0x80001001 ∷ 0x40000001
+    ∷ 0xC0000202 ∷ 0x80000002 ∷ 0x80000003
+    ∷ 0xC0000101 ∷ 0x80008003
+    ∷ 0xC000030A ∷ 0x80009001 ∷ 0x00000000 ∷ 0x80008002
+    ∷ 0x0000000C ∷ 0x00000005 ∷ 0x2B1B6773 ∷ 0x00000010 ∷ []
+
 -- THE CALLS
 pub data Call : Type 0 where
   search : SearchAsked → Call
@@ -98,6 +108,11 @@ abbrev pub caseOne : Given
 caseOne =
     found (0x40000000 ∷ 0x40000001 ∷ []) 2 (0x80002001 ∷ 0x40000001 ∷ 0x40000002 ∷ 0x80002001 ∷ 0x40000001 ∷ 0x40000003 ∷ []) 3
 
+-- order 3's proof, which copies the question twice, has one disjunct: it is definite
+abbrev pub onceTold : Given
+onceTold =
+    found (0x40000000 ∷ 0x40000001 ∷ 0x40000004 ∷ 0x40000002 ∷ 0x40000003 ∷ []) 1 (0x80001001 ∷ 0x40000001 ∷ 0x80000002 ∷ []) 7
+
 abbrev pub starredCalls : List Call
 starredCalls =
     searched matOrEve 2 3
@@ -114,6 +129,8 @@ starredCalls =
     ∷ checked matOrEve 2 (0x40000000 ∷ [])
     ∷ checked matOrEve 2 (0x80000000 ∷ [])
     ∷ checked otherTime 1 (0x40000000 ∷ [])
+    ∷ searched toldTwice 5 ample
+    ∷ checked toldTwice 5 (onceTold .proof)
     ∷ []
 
 abbrev pub starredResults : List Given
@@ -133,6 +150,8 @@ starredResults =
     ∷ refused 15 1 0
     ∷ refused 12 0 0
     ∷ refused 14 0 0
+    ∷ onceTold
+    ∷ granted 5 [] 1 (onceTold .answer) 0
     ∷ []
 
 abbrev pub StarredCases : Type 0

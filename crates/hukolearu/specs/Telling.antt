@@ -1,15 +1,14 @@
 -- Machinery: what the functions below the public calls promise one another. No public contract speaks of it.
-use mathlib.Core.Bool.{cond}
+use mathlib.Core.Bool.{Bool, cond}
 use mathlib.Core.List.{List}
 use mathlib.Core.Path.{_≡_}
 use Prim.Native.Nat.{ℕ, _≤_}
 use lib.Dec.{leb}
 use lib.ListN.{length}
 use Rattle.table.specs.File.{judge}
-use Rattle.unification.specs.State.{copiesOf, ClauseAt}
 use Rattle.unification.specs.Good.{Good}
-use Rattle.tableaux.specs.Leaves.{questionsAmong}
-use Rattle.engine.specs.Writing.{answerHeld, Unmarked}
+use Rattle.engine.specs.Writing.{wordsOf, answerHeld, Unmarked}
+use Rattle.engine.specs.Repeats.{disjunctsHeld, Chose}
 use Rattle.hukolearu.specs.Calls.{Given, granted, refused, roomOf, atFront}
 use Rattle.hukolearu.specs.declared.Outcome.{Outcome}
 
@@ -27,20 +26,24 @@ pub record Passed (f m : List ℕ) (question bound : ℕ) : Type 0 where
   pub low : bound ≤ 32
 
 -- the work words hold a play that has an answer
-pub record Answerable (f m : List ℕ) (question : ℕ) : Type 0 where
+pub record Answerable (f m : List ℕ) : Type 0 where
   pub good : Good f m
-  pub asked : ClauseAt f question
   pub unmarked : Unmarked m
 
--- its answer fits a buffer
-pub record Writable (f m : List ℕ) (question : ℕ) (buffer : List ℕ) : Type 0 where
-  pub answerable : Answerable f m question
-  pub inside : length (answerHeld f m question) ≤ length buffer
-  pub small : length (answerHeld f m question) ≤ 4294967295
+-- which copies are kept was chosen, and whether the answer fits
+pub record Fits (f m m′ : List ℕ) (question words : ℕ) (r : Bool) : Type 0 where
+  pub chose : Chose f m m′ question
+  pub says : r ≡ leb (length (wordsOf (disjunctsHeld f m question))) (roomOf words)
+
+-- the answer that is kept fits a buffer
+pub record Writable (f m buffer : List ℕ) : Type 0 where
+  pub answerable : Answerable f m
+  pub inside : length (answerHeld f m) ≤ length buffer
+  pub small : length (answerHeld f m) ≤ 4294967295
 
 -- what is told of it: as `answered` of Calls, by the work words
 unfoldable pub held : List ℕ → List ℕ → ℕ → ℕ → List ℕ → ℕ → ℕ → Given
 held f m question steps proof tries room =
-    cond (leb (length (answerHeld f m question)) (roomOf room))
-    (granted steps proof (length (questionsAmong m question (copiesOf m))) (answerHeld f m question) tries)
+    cond (leb (length (wordsOf (disjunctsHeld f m question))) (roomOf room))
+    (granted steps proof (length (disjunctsHeld f m question)) (wordsOf (disjunctsHeld f m question)) tries)
     (refused 16 0 tries)

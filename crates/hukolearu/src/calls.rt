@@ -8,6 +8,7 @@ use engine::answer;
 use engine::answer::Room;
 use engine::check;
 use engine::check::Verdict;
+use engine::once;
 use engine::search;
 use engine::search::Ending;
 use unification::memory;
@@ -15,19 +16,16 @@ use words::fields;
 ghost use mathlib.Core.Path.{_≡_};
 ghost use mathlib.Core.List.{[], map};
 ghost use Prim.Native.Nat.{_≤_};
-ghost use lib.Dec.{leb};
 ghost use lib.ListN.{length, take, drop};
 ghost use Rattle.words.specs.Steps.{stepOf};
 ghost use Rattle.table.specs.File.{tableIn};
 ghost use Rattle.rules.specs.Machinery.Play.{check, searchFor};
 ghost use Rattle.rules.specs.Setting.{base};
-ghost use Rattle.unification.specs.State.{copiesOf, ClauseAt};
 ghost use Rattle.unification.specs.Good.{Good};
-ghost use Rattle.tableaux.specs.Leaves.{questionsAmong};
-ghost use Rattle.engine.specs.Writing.{answerHeld};
+ghost use Rattle.engine.specs.Writing.{answerHeld, disjunctsKept};
 ghost use Rattle.hukolearu.specs.Door.{workAfter};
 ghost use Rattle.hukolearu.specs.Calls.{refused, granted, roomOf, searchGiven, checkGiven, searchCall, searchWith, checkCall, checkWith, atFront};
-ghost use Rattle.hukolearu.specs.Telling.{Told, Passed, Answerable, Writable, held};
+ghost use Rattle.hukolearu.specs.Telling.{Told, Passed, Answerable, Fits, Writable, held};
 
 // A search's longest proof.
 pub const LONGEST_PROOF: usize = 199;
@@ -55,11 +53,13 @@ fn room_of(words: usize) -> usize
     4294967295
 }
 
-fn fits(file: &[u32], work: &[u32], question: u32, words: usize) -> bool
-    requires { ⌜ Good (now file) (now work) × ClauseAt (now file) question ⌝ }
-    ensures { λ r. ⌜ r ≡ leb (length (answerHeld (now (file .entry)) (now (work .entry)) question)) (roomOf words) ⌝ }
+// Which copies of the question the answer keeps, and whether it fits.
+fn fits(file: &[u32], work: &mut [u32], question: u32, words: usize) -> bool
+    requires { ⌜ Good (now file) (now work) ⌝ }
+    ensures { λ r. ⌜ Fits (now (file .entry)) (now (work .entry)) (now (work .exit)) question words r ⌝ }
 {
-    let room = answer::room_after(file, work, question, room_of(words));
+    once::choose(file, work, question);
+    let room = answer::room_after(file, work, room_of(words));
     let Room::Left(_) = room else {
         return false;
     };
@@ -67,18 +67,11 @@ fn fits(file: &[u32], work: &[u32], question: u32, words: usize) -> bool
 }
 
 // The answer, which fits, is written.
-fn granted(
-    file: &[u32],
-    work: &mut [u32],
-    answer: &mut [u32],
-    question: u32,
-    proof: u32,
-    tries: u32,
-) -> Outcome
-    requires { ⌜ Writable (now file) (now work) question (now answer) ⌝ }
-    ensures { λ r. ⌜ Told (granted proof [] (length (questionsAmong (now (work .entry)) question (copiesOf (now (work .entry))))) (answerHeld (now (file .entry)) (now (work .entry)) question) tries) r [] [] (now (answer .entry)) (now (answer .exit)) ⌝ }
+fn granted(file: &[u32], work: &mut [u32], answer: &mut [u32], proof: u32, tries: u32) -> Outcome
+    requires { ⌜ Writable (now file) (now work) (now answer) ⌝ }
+    ensures { λ r. ⌜ Told (granted proof [] (length (disjunctsKept (now (file .entry)) (now (work .entry)))) (answerHeld (now (file .entry)) (now (work .entry))) tries) r [] [] (now (answer .entry)) (now (answer .exit)) ⌝ }
 {
-    let written = answer::write(file, work, answer, question);
+    let written = answer::write(file, work, answer);
     Outcome {
         status: status::DONE,
         place: 0,
@@ -111,14 +104,14 @@ fn found(
     answer: &mut [u32],
     work: &mut [u32],
 ) -> Outcome
-    requires { ⌜ Answerable (now file) (now work) question × (steps ≤ 199) × (199 ≤ length (now proof)) ⌝ }
+    requires { ⌜ Answerable (now file) (now work) × (steps ≤ 199) × (199 ≤ length (now proof)) ⌝ }
     ensures { λ r. ⌜ Told (held (now (file .entry)) (now (work .entry)) question steps (take steps (drop 1984 (now (work .entry)))) tries (length (now (answer .entry)))) r (now (proof .entry)) (now (proof .exit)) (now (answer .entry)) (now (answer .exit)) ⌝ }
 {
     if !fits(file, work, question, answer.len()) {
         return refused(status::ANSWER_TOO_LONG, 0, tries);
     }
     copy_steps(work, proof, steps);
-    granted(file, work, answer, question, steps, tries)
+    granted(file, work, answer, steps, tries)
 }
 
 // A search past the door.
@@ -194,13 +187,13 @@ fn accepted(
     answer: &mut [u32],
     work: &mut [u32],
 ) -> Outcome
-    requires { ⌜ Answerable (now file) (now work) question ⌝ }
+    requires { ⌜ Answerable (now file) (now work) ⌝ }
     ensures { λ r. ⌜ Told (held (now (file .entry)) (now (work .entry)) question steps [] 0 (length (now (answer .entry)))) r [] [] (now (answer .entry)) (now (answer .exit)) ⌝ }
 {
     if !fits(file, work, question, answer.len()) {
         return refused(status::ANSWER_TOO_LONG, 0, 0);
     }
-    granted(file, work, answer, question, steps, 0)
+    granted(file, work, answer, steps, 0)
 }
 
 // A check of a proof past the door.

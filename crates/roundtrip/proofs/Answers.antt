@@ -3,15 +3,19 @@ use mathlib.Core.List.{List, [], _∷_, _++_, map, map-append}
 use mathlib.Core.Path.{_≡_, refl, sym, ap, ap₂, subst, _∙_}
 use Prim.Native.Nat.{ℕ}
 use native.Mathlib.Omega.{arith}
-use lib.ListN.{length, getD}
+use lib.ListN.{length, getD, length-map}
 use Rattle.words.specs.declared.Step.{Step}
 use Rattle.table.specs.Syntax.{Term, var, app, Terms, nil, _then_, under, unders, Literal, literalUnder, Table}
 use Rattle.rules.specs.Substitution.{Variable, Substitution, MostGeneral}
 use Rattle.rules.specs.Setting.{Profile, over}
 use Rattle.rules.specs.Tableau.{copyOf, Closed}
-use Rattle.rules.specs.Answer.{positive, disjunct, disjuncts, occurring, occurringIn, occurringAll, firsts, placeOf, numbered, joined}
+use Rattle.rules.specs.Verdict.{Answers}
+use Rattle.rules.specs.Answer.{positive, disjunct, perCopy, sameDisjunct, firstsBy, disjuncts, answerWords, occurring, occurringIn, occurringAll, firsts, placeOf, numbered, joined}
 use Rattle.rules.proofs.Answer.{numbered-once}
-use Rattle.rules.proofs.Every.{All, all-first, all-rest, all-then, all-of}
+use Rattle.rules.proofs.Demands.{one-answer}
+use Rattle.rules.proofs.Firsts.{firsts-renamed}
+use Rattle.rules.proofs.Sameness.{disjuncts-told}
+use Rattle.rules.proofs.Every.{All, end, all-first, all-rest, all-then, all-of}
 use Rattle.roundtrip.specs.Renumbered.{firstUses, numberIn, predicates, functions, variableUses, renamedTerm, renamedTerms, renamedLiteral, renumbered}
 use Rattle.roundtrip.proofs.Renaming.{agree-literals, shown-predicates, shown-functions}
 use Rattle.roundtrip.proofs.Permutations.{Permutation, after, numbering, numbering-known, numbering-below, moving, moving-below, moving-above}
@@ -66,6 +70,23 @@ unfolding joined
 joined-map f [] = refl
 joined-map f (d ∷ ds) = rw (joined-map f ds) (sym (map-append f d (joined ds)))
 
+-- a numbering of symbols has a way back
+mutual
+  unfolding renamedTerm
+
+  term-undone : (f : Permutation ℕ) (t : Term Variable) → renamedTerm (f .from) (λ x. x) (renamedTerm (f .to) (λ x. x) t) ≡ t
+  term-undone f (var x) = refl
+  term-undone f (app g ts) = ap₂ app (f .back g) (terms-undone f ts)
+
+  terms-undone : (f : Permutation ℕ) (ts : Terms Variable) → renamedTerms (f .from) (λ x. x) (renamedTerms (f .to) (λ x. x) ts) ≡ ts
+  terms-undone f nil = refl
+  terms-undone f (t then ts) = ap₂ _then_ (term-undone f t) (terms-undone f ts)
+
+literals-undone : (p f : Permutation ℕ) (ls : List (Literal Variable)) → map (renamedLiteral (p .from) (f .from) (λ x. x)) (map (renamedLiteral (p .to) (f .to) (λ x. x)) ls) ≡ ls
+unfolding renamedLiteral
+literals-undone p f [] = refl
+literals-undone p f (l ∷ ls) = rw (p .back (l .predicate), terms-undone f (l .arguments), literals-undone p f ls)
+
 -- the answer over a table with other numbers
 module _ (rules : Profile) (p f : Permutation ℕ) (t : Table) (bound : ℕ) (steps : List Step)
     (c : Closed (over rules t bound) steps) (d : Closed (over rules (turnedTable p f t) bound) steps) where
@@ -90,11 +111,26 @@ module _ (rules : Profile) (p f : Permutation ℕ) (t : Table) (bound : ℕ) (st
   held : Image p f v (c .tableau) (d .tableau)
   held = closed-image rules p f t bound steps c d
 
+  -- each at its first place: what is different stays so
+  undone : (ds : List (List (Literal Variable))) → All (λ d. map (renamedLiteral (p .from) (f .from) (λ x. x)) (map (renamedLiteral (p .to) (f .to) (λ x. x)) d) ≡ d) ds
+  undone ds = all-of (literals-undone p f) ds
+
   disjuncts-forth : (σ : Substitution) → disjuncts (forth p f v σ) (turnedTable p f t) (d .tableau) ≡ map (map (renamedLiteral (p .to) (f .to) (λ x. x))) (disjuncts σ t (c .tableau))
-  unfolding disjuncts
+  unfolding disjuncts perCopy firstsBy
   disjuncts-forth σ =
-      ap (λ (qs : List ℕ). map (disjunct (forth p f v σ) (turnedTable p f t .question)) qs) (held .questions)
-      ∙ each-forth σ (c .tableau .questions) (closed-asked rules p f t bound steps c d)
+      ap (λ (ds : List (List (Literal Variable))). firstsBy sameDisjunct ds)
+      (ap (λ (qs : List ℕ). map (disjunct (forth p f v σ) (turnedTable p f t .question)) qs) (held .questions)
+      ∙ each-forth σ (c .tableau .questions) (closed-asked rules p f t bound steps c d))
+      ∙ firsts-renamed disjuncts-told disjuncts-told (map (renamedLiteral (p .to) (f .to) (λ x. x))) (map (renamedLiteral (p .from) (f .from) (λ x. x))) []
+      (map (disjunct σ (t .question)) (c .tableau .questions)) end (undone (map (disjunct σ (t .question)) (c .tableau .questions)))
+
+  -- as many disjuncts
+  pub count-forth : (σ : Substitution) → MostGeneral σ (c .tableau .pairs) → (m : ℕ) (vs : List ℕ) → Answers (turnedTable p f t) (d .tableau) m vs → m ≡ length (disjuncts σ t (c .tableau))
+  count-forth σ g m vs a =
+      one-answer (turnedTable p f t) (d .tableau) m (length (disjuncts (forth p f v σ) (turnedTable p f t) (d .tableau))) vs (answerWords (forth p f v σ) (turnedTable p f t) (d .tableau)) a
+      (record { by = forth p f v σ; general = general-forth p f v (held .pairs) σ g; counted = refl; written = refl }) .0
+      ∙ ap (λ (ds : List (List (Literal Variable))). length ds) (disjuncts-forth σ)
+      ∙ length-map (disjuncts σ t (c .tableau)) (map (renamedLiteral (p .to) (f .to) (λ x. x)))
 
   -- the literals with their variables numbered
   pub answer-forth : (σ τ : Substitution) → MostGeneral σ (c .tableau .pairs) → MostGeneral τ (d .tableau .pairs)
@@ -119,13 +155,13 @@ both-known : (uses : List ℕ) (n : ℕ) → numbering uses .to n ≡ elsewhere 
 unfolding after
 both-known uses n e = numbering-below uses n (moving-above (length (firstUses uses)) (numbering uses .to n) e)
 
--- as many copies of the question
-pub same-copies : (rules : Profile) (t : Table) (bound : ℕ) (steps : List Step) (c : Closed (over rules t bound) steps) (d : Closed (over rules (renumbered t) bound) steps)
-    → d .tableau .questions ≡ c .tableau .questions
-same-copies rules t bound steps c d =
-    subst (λ (u : Table). (e : Closed (over rules u bound) steps) → e .tableau .questions ≡ c .tableau .questions)
+-- as many disjuncts over the renumbered table
+pub same-count : (rules : Profile) (t : Table) (bound : ℕ) (steps : List Step) (c : Closed (over rules t bound) steps) (d : Closed (over rules (renumbered t) bound) steps)
+    (σ : Substitution) → MostGeneral σ (c .tableau .pairs) → (m : ℕ) (vs : List ℕ) → Answers (renumbered t) (d .tableau) m vs → m ≡ length (disjuncts σ t (c .tableau))
+same-count rules t bound steps c d σ g m vs a =
+    subst (λ (u : Table). (e : Closed (over rules u bound) steps) → Answers u (e .tableau) m vs → m ≡ length (disjuncts σ t (c .tableau)))
     (renumbered-turned t (predicateNumbers t) (functionNumbers t) (numbering-known (predicatesUsed t)) (numbering-known (functionsUsed t)))
-    (λ e. closed-image rules (predicateNumbers t) (functionNumbers t) t bound steps c e .questions) d
+    (λ e b. count-forth rules (predicateNumbers t) (functionNumbers t) t bound steps c e σ g m vs b) d a
 
 -- the answer over the renumbered table
 module _ (rules : Profile) (t : Table) (bound : ℕ) (steps : List Step) (c : Closed (over rules t bound) steps) (d : Closed (over rules (renumbered t) bound) steps)

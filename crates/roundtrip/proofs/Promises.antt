@@ -41,7 +41,7 @@ use Rattle.roundtrip.proofs.Twice as Twice
 use Rattle.roundtrip.proofs.InOrder as InOrder
 use Rattle.roundtrip.proofs.SameProofs as Proofs
 use Rattle.roundtrip.proofs.Verdicts as Verdicts
-use Rattle.roundtrip.proofs.Answers.{same-copies, answer-renumbered}
+use Rattle.roundtrip.proofs.Answers.{same-count, answer-renumbered}
 
 pub text-says : TextSays
 unfolding TextSays
@@ -180,6 +180,6 @@ same-answers rules t bound steps within low c d n m ws vs a b =
     let read : literalsFrom ws ≡ numbered (joined (disjuncts (a .by) t (c .tableau))) =
     ap (λ (us : List ℕ). literalsFrom us) (a .written) ∙ literals-decoded old (omega arith) (answer-within (over rules t bound) within low c (a .by) (a .general)) in
     let new = answer-renumbered rules t bound steps c d (a .by) (b .by) (a .general) (b .general) in (
-      b .counted ∙ ap (λ (qs : List ℕ). length qs) (same-copies rules t bound steps c d) ∙ sym (a .counted),
+      same-count rules t bound steps c d (a .by) (a .general) m vs b ∙ sym (a .counted),
       rw read (b .written ∙ ap (λ (ls : List (Literal ℕ)). literalsWords ls) new),
     )

@@ -2,7 +2,7 @@
 use lib.ListN.{length, getD, length-map}
 use mathlib.Core.Bool.{Bool, true, false, cond}
 use mathlib.Core.List.{List, [], _∷_, _++_, map, append-assoc, map-append}
-use mathlib.Core.Path.{_≡_, refl, sym, _∙_, ap, ap₂}
+use mathlib.Core.Path.{_≡_, refl, sym, _∙_, ap, ap₂, subst}
 use native.Mathlib.Omega.{arith}
 use Prim.Native.Nat.{ℕ, zero, suc, _+_, _*_, _<_, _≤_}
 use mathlib.Core.Logic.{_≢_}
@@ -10,10 +10,12 @@ use Rattle.table.specs.Syntax.{Term, var, app, Terms, nil, _then_, under, under
 use Rattle.table.specs.Encode.{literalsWords}
 use Rattle.rules.specs.Substitution.{Variable, Substitution, Pair, Solves, MostGeneral, sameVariable}
 use Rattle.rules.specs.Tableau.{copyOf, Tableau}
-use Rattle.rules.specs.Answer.{positive, disjunct, disjuncts, occurring, occurringIn, occurringAll, seen, firstsAfter, firsts, placeOf, numbered, joined, answerWords}
+use Rattle.rules.specs.Answer.{positive, disjunct, disjuncts, occurring, occurringIn, occurringAll, sameDisjunct, seenBy, firstsAfterBy, firstsBy, placeBy, AllDifferent, perCopy, seen, firstsAfter, firsts, placeOf, numbered, joined, answerWords}
 use Rattle.rules.proofs.Substitution.{unders-var, unders-unders, sames}
 use Rattle.rules.proofs.Every.{All, end, _also_, all-first, all-rest, all-append, all-left, all-right, all-then, true-false, Ordered, done, _ahead_, ordered-append}
-use Rattle.rules.proofs.Unify.Tests.{same-true, same-refl}
+use Rattle.rules.proofs.Firsts as Firsts
+use Rattle.rules.proofs.Sameness.{variables-told, disjuncts-told}
+use Rattle.rules.proofs.Unify.Tests.{same-true}
 use Rattle.rules.proofs.Distinct.{distinct-below}
 
 -- the disjuncts of an answer, each with its variables so numbered
@@ -82,62 +84,19 @@ literals-under-var (l ∷ ls) =
     (ap (λ (ts : Terms _). record { negative = l .negative; predicate = l .predicate; arguments = ts }) (unders-var (l .arguments)))
     (literals-under-var ls)
 
--- what holds of all variables holds of the first occurrences
-firsts-all : {P : Variable → Type 0} (before xs : List Variable) → All P before → All P xs → All P (firstsAfter before xs)
-unfolding firstsAfter
-firsts-all before [] us vs = us
-firsts-all {P} before (x ∷ xs) us vs =
-    go (seen x before) (firsts-all before xs us (all-rest vs))
-    (firsts-all (before ++ (x ∷ [])) xs (all-append us (all-first vs also end)) (all-rest vs))
-  where
-    go :
-        (b : Bool) → All P (firstsAfter before xs) → All P (firstsAfter (before ++ (x ∷ [])) xs)
-        → All P (cond b (firstsAfter before xs) (firstsAfter (before ++ (x ∷ [])) xs))
-    go true p q = p
-    go false p q = q
-
 -- A renaming, undone by another on some variables, keeps apart what is different there.
 module _ (r q : Variable → Variable) where
   abbrev Undone : Variable → Type 0
   Undone x = q (r x) ≡ x
 
-  same-kept : (x y : Variable) → Undone x → Undone y → sameVariable (r x) (r y) ≡ sameVariable x y
-  same-kept x y ux uy = go (sameVariable x y) refl (sameVariable (r x) (r y)) refl
-    where
-      go : (b : Bool) → sameVariable x y ≡ b → (c : Bool) → sameVariable (r x) (r y) ≡ c → c ≡ b
-      go true e true f = refl
-      go true e false f = true-false (ap (λ (z : Variable). sameVariable (r x) (r z)) (sym (same-true x y e)) ∙ same-refl (r x)) f
-      go false e true f =
-          let h : x ≡ y = sym ux ∙ ap q (same-true (r x) (r y) f) ∙ uy in
-          true-false (ap (sameVariable x) (sym h) ∙ same-refl x) e
-      go false e false f = refl
-
-  seen-renamed : (x : Variable) (ys : List Variable) → Undone x → All Undone ys → seen (r x) (map r ys) ≡ seen x ys
-  unfolding seen
-  seen-renamed x [] u us = refl
-  seen-renamed x (y ∷ ys) u us =
-      ap₂ (λ (b c : Bool). cond b true c) (same-kept x y u (all-first us)) (seen-renamed x ys u (all-rest us))
+  firsts-renamed : (before xs : List Variable) → All Undone before → All Undone xs → firstsAfter (map r before) (map r xs) ≡ map r (firstsAfter before xs)
+  firsts-renamed = Firsts.firsts-renamed variables-told variables-told r q
 
   place-renamed : (x : Variable) (ys : List Variable) → Undone x → All Undone ys → placeOf (r x) (map r ys) ≡ placeOf x ys
-  unfolding placeOf
+  unfolding placeBy
   place-renamed x [] u us = refl
   place-renamed x (y ∷ ys) u us =
-      ap₂ (λ (b : Bool) (n : ℕ). cond b zero (suc n)) (same-kept x y u (all-first us)) (place-renamed x ys u (all-rest us))
-
-  firsts-renamed :
-      (before xs : List Variable) → All Undone before → All Undone xs → firstsAfter (map r before) (map r xs) ≡ map r (firstsAfter before xs)
-  unfolding firstsAfter
-  firsts-renamed before [] us vs = refl
-  firsts-renamed before (x ∷ xs) us vs =
-      go (seen x before) (firstsAfter before xs) (firstsAfter (before ++ (x ∷ [])) xs) (seen-renamed x before (all-first vs) us) (firsts-renamed before xs us (all-rest vs))
-      (ap (λ (l : List Variable). firstsAfter l (map r xs)) (sym (map-append r before (x ∷ [])))
-      ∙ firsts-renamed (before ++ (x ∷ [])) xs (all-append us (all-first vs also end)) (all-rest vs))
-    where
-      go :
-          (b : Bool) (m n : List Variable) {c : Bool} {k l : List Variable} → c ≡ b → k ≡ map r m → l ≡ map r n
-          → cond c k l ≡ map r (cond b m n)
-      go true m n e f g = rw e f
-      go false m n e f g = rw e g
+      ap₂ (λ (b : Bool) (n : ℕ). cond b zero (suc n)) (Firsts.same-kept variables-told variables-told r q x y u (all-first us)) (place-renamed x ys u (all-rest us))
 
   mutual
     unfolding under occurring
@@ -157,13 +116,13 @@ module _ (r q : Variable → Variable) where
       ap₂ _++_ (occurring-in-renamed (l .arguments)) (occurring-all-renamed ls) ∙ sym (map-append r (occurringIn (l .arguments)) (occurringAll ls))
 
   numbered-renamed : (ls : List (Literal Variable)) → All Undone (occurringAll ls) → numbered (map (literalUnder (λ x. var (r x))) ls) ≡ numbered ls
-  unfolding numbered firsts under
+  unfolding numbered firstsBy under
   numbered-renamed ls us =
       let o : firstsAfter [] (occurringAll (map (literalUnder (λ x. var (r x))) ls)) ≡ map r (firstsAfter [] (occurringAll ls)) =
       ap (firstsAfter []) (occurring-all-renamed ls) ∙ firsts-renamed [] (occurringAll ls) end us in
       rw o
       (literals-under-under (λ x. var (placeOf x (map r (firstsAfter [] (occurringAll ls))))) (λ x. var (r x)) ls
-      ∙ literals-agree _ _ ls (all-then (λ x u. ap var (place-renamed x (firstsAfter [] (occurringAll ls)) u (firsts-all [] (occurringAll ls) end us))) us))
+      ∙ literals-agree _ _ ls (all-then (λ x u. ap var (place-renamed x (firstsAfter [] (occurringAll ls)) u (Firsts.firsts-all sameVariable [] (occurringAll ls) end us))) us))
 
 -- a term that one substitution takes back to a variable is a variable
 nameOf : Variable → Term Variable → Variable
@@ -205,7 +164,7 @@ numbered-either-way ρ τ ls e =
 pub count-either-way :
     (ρ τ : Substitution) (ls : List (Literal Variable)) → map (literalUnder τ) (map (literalUnder ρ) ls) ≡ ls
     → length (firsts (occurringAll (map (literalUnder ρ) ls))) ≡ length (firsts (occurringAll ls))
-unfolding firsts
+unfolding firstsBy
 count-either-way ρ τ ls e =
     let r = renaming ρ τ ls e in
     let o = occurring-all-renamed (λ x. nameOf x (ρ x)) (λ x. nameOf x (τ x)) ls in
@@ -227,11 +186,11 @@ disjunct-instance σ τ ρ e (l ∷ ls) =
     (sames e (l .arguments) ∙ sym (unders-unders ρ σ (l .arguments))))
     (disjunct-instance σ τ ρ e ls)
 
-pub disjuncts-instance :
+pub copies-instance :
     (σ τ ρ : Substitution) → ((x : Variable) → τ x ≡ under ρ (σ x)) → (t : Table) (x : Tableau)
-    → disjuncts τ t x ≡ map (map (literalUnder ρ)) (disjuncts σ t x)
-unfolding disjuncts disjunct
-disjuncts-instance σ τ ρ e t x = go (x .questions)
+    → perCopy τ t x ≡ map (map (literalUnder ρ)) (perCopy σ t x)
+unfolding perCopy disjunct
+copies-instance σ τ ρ e t x = go (x .questions)
   where
     go : (qs : List ℕ) → map (disjunct τ (t .question)) qs ≡ map (map (literalUnder ρ)) (map (disjunct σ (t .question)) qs)
     go [] = refl
@@ -242,27 +201,48 @@ unfolding joined
 joined-map f [] = refl
 joined-map f (d ∷ ds) = ap (λ (l : List (Literal Variable)). map f d ++ l) (joined-map f ds) ∙ sym (map-append f d (joined ds))
 
-pub joined-instance :
-    (σ τ ρ : Substitution) → ((x : Variable) → τ x ≡ under ρ (σ x)) → (t : Table) (x : Tableau)
-    → joined (disjuncts τ t x) ≡ map (literalUnder ρ) (joined (disjuncts σ t x))
-joined-instance σ τ ρ e t x = ap joined (disjuncts-instance σ τ ρ e t x) ∙ joined-map (literalUnder ρ) (disjuncts σ t x)
-
 -- two most general solutions take the disjuncts to one another
-record EitherWay (ks ls : List (Literal Variable)) : Type 0 where
+record EitherWay (ks ls : List (List (Literal Variable))) : Type 0 where
   there : Substitution
   back : Substitution
-  to : ls ≡ map (literalUnder there) ks
-  fro : map (literalUnder back) (map (literalUnder there) ks) ≡ ks
+  to : ls ≡ map (map (literalUnder there)) ks
+  fro : All (λ d. map (literalUnder back) (map (literalUnder there) d) ≡ d) ks
+
+returned : {A B : Type 0} (f : A → B) (g : B → A) (xs : List A) → xs ≡ map g (map f xs) → All (λ x. g (f x) ≡ x) xs
+returned f g [] e = end
+returned f g (x ∷ xs) e = let h : g (f x) ≡ x = cc in h also returned f g xs (cc)
 
 either-way :
     (t : Table) (x : Tableau) (ps : List Pair) (σ τ : Substitution) → MostGeneral σ ps → MostGeneral τ ps
-    → EitherWay (joined (disjuncts σ t x)) (joined (disjuncts τ t x))
+    → EitherWay (disjuncts σ t x) (disjuncts τ t x)
+unfolding disjuncts firstsBy
 either-way t x ps σ τ m n =
     let there = m .general τ (n .solves) in
     let back = n .general σ (m .solves) in
-    let to = joined-instance σ τ (there .0) (there .1) t x in
-    let fro = joined-instance τ σ (back .0) (back .1) t x in
-    record { there = there .0; back = back .0; to = to; fro = ap (map (literalUnder (back .0))) (sym to) ∙ sym fro }
+    let to = copies-instance σ τ (there .0) (there .1) t x in
+    let fro =
+    returned (map (literalUnder (there .0))) (map (literalUnder (back .0))) (perCopy σ t x)
+    (copies-instance τ σ (back .0) (back .1) t x ∙ ap (map (map (literalUnder (back .0)))) to) in
+    record {
+      there = there .0;
+      back = back .0;
+      to =
+          ap (firstsBy sameDisjunct) to
+          ∙ Firsts.firsts-renamed disjuncts-told disjuncts-told (map (literalUnder (there .0))) (map (literalUnder (back .0))) [] (perCopy σ t x) end fro;
+      fro = Firsts.firsts-all sameDisjunct [] (perCopy σ t x) end fro;
+    }
+
+-- so with their literals, one after another
+joined-to : {ks ls : List (List (Literal Variable))} (w : EitherWay ks ls) → joined ls ≡ map (literalUnder (w .there)) (joined ks)
+joined-to {ks} w = ap joined (w .to) ∙ joined-map (literalUnder (w .there)) ks
+
+joined-back : (ρ τ : Substitution) (ks : List (List (Literal Variable))) → All (λ d. map (literalUnder τ) (map (literalUnder ρ) d) ≡ d) ks
+    → map (literalUnder τ) (map (literalUnder ρ) (joined ks)) ≡ joined ks
+unfolding joined
+joined-back ρ τ [] a = refl
+joined-back ρ τ (d ∷ ks) a =
+    ap (map (literalUnder τ)) (map-append (literalUnder ρ) d (joined ks)) ∙ map-append (literalUnder τ) (map (literalUnder ρ) d) (map (literalUnder ρ) (joined ks))
+    ∙ ap₂ _++_ (all-first a) (joined-back ρ τ ks (all-rest a))
 
 -- the answer's literals, numbered, do not depend on which most general solution was taken, and neither does the number of its variables
 pub numbered-once :
@@ -270,14 +250,19 @@ pub numbered-once :
     → numbered (joined (disjuncts σ t x)) ≡ numbered (joined (disjuncts τ t x))
 numbered-once t x ps σ τ m n =
     let w = either-way t x ps σ τ m n in
-    sym (ap numbered (w .to) ∙ numbered-either-way (w .there) (w .back) _ (w .fro))
+    sym (ap numbered (joined-to w) ∙ numbered-either-way (w .there) (w .back) _ (joined-back (w .there) (w .back) _ (w .fro)))
 
 pub count-once :
     (t : Table) (x : Tableau) (ps : List Pair) (σ τ : Substitution) → MostGeneral σ ps → MostGeneral τ ps
     → length (firsts (occurringAll (joined (disjuncts σ t x)))) ≡ length (firsts (occurringAll (joined (disjuncts τ t x))))
 count-once t x ps σ τ m n =
     let w = either-way t x ps σ τ m n in
-    sym (ap (λ (l : List (Literal Variable)). length (firsts (occurringAll l))) (w .to) ∙ count-either-way (w .there) (w .back) _ (w .fro))
+    sym (ap (λ (l : List (Literal Variable)). length (firsts (occurringAll l))) (joined-to w) ∙ count-either-way (w .there) (w .back) _ (joined-back (w .there) (w .back) _ (w .fro)))
+
+pub number-once :
+    (t : Table) (x : Tableau) (ps : List Pair) (σ τ : Substitution) → MostGeneral σ ps → MostGeneral τ ps
+    → length (disjuncts σ t x) ≡ length (disjuncts τ t x)
+number-once t x ps σ τ m n = let w = either-way t x ps σ τ m n in sym (ap length (w .to) ∙ length-map (disjuncts σ t x) (map (literalUnder (w .there))))
 
 pub answer-once :
     (t : Table) (x : Tableau) (ps : List Pair) (σ τ : Substitution) → MostGeneral σ ps → MostGeneral τ ps
@@ -285,48 +270,8 @@ pub answer-once :
 unfolding answerWords
 answer-once t x ps σ τ m n = ap literalsWords (numbered-once t x ps σ τ m n)
 
--- every variable that occurs is among the first occurrences, which are all different
-seen-left : (x : Variable) (ys zs : List Variable) → seen x ys ≡ true → seen x (ys ++ zs) ≡ true
-unfolding seen
-seen-left x [] zs e = true-false e refl
-seen-left x (y ∷ ys) zs e = go (sameVariable x y) (seen-left x ys zs) e
-  where
-    go : (b : Bool) → (seen x ys ≡ true → seen x (ys ++ zs) ≡ true) → cond b true (seen x ys) ≡ true → cond b true (seen x (ys ++ zs)) ≡ true
-    go true f e = refl
-    go false f e = f e
-
-seen-last : (x : Variable) (ys : List Variable) → seen x (ys ++ (x ∷ [])) ≡ true
-unfolding seen
-seen-last x [] = rw (same-refl x)
-seen-last x (y ∷ ys) = go (sameVariable x y) (seen-last x ys)
-  where
-    go : (b : Bool) → seen x (ys ++ (x ∷ [])) ≡ true → cond b true (seen x (ys ++ (x ∷ []))) ≡ true
-    go true f = refl
-    go false f = f
-
-seen-kept : (x : Variable) (before xs : List Variable) → seen x before ≡ true → seen x (firstsAfter before xs) ≡ true
-unfolding firstsAfter
-seen-kept x before [] e = e
-seen-kept x before (y ∷ xs) e = go (seen y before) (seen-kept x before xs e) (seen-kept x (before ++ (y ∷ [])) xs (seen-left x before (y ∷ []) e))
-  where
-    go : (b : Bool) → seen x (firstsAfter before xs) ≡ true → seen x (firstsAfter (before ++ (y ∷ [])) xs) ≡ true
-        → seen x (cond b (firstsAfter before xs) (firstsAfter (before ++ (y ∷ [])) xs)) ≡ true
-    go true f g = f
-    go false f g = g
-
-pub all-seen : (before xs : List Variable) → All (λ x. seen x (firstsAfter before xs) ≡ true) xs
-unfolding firstsAfter
-all-seen before [] = end
-all-seen before (x ∷ xs) = go (seen x before) refl (all-seen before xs) (all-seen (before ++ (x ∷ [])) xs)
-  where
-    go : (b : Bool) → seen x before ≡ b → All (λ y. seen y (firstsAfter before xs) ≡ true) xs
-        → All (λ y. seen y (firstsAfter (before ++ (x ∷ [])) xs) ≡ true) xs
-        → All (λ y. seen y (cond b (firstsAfter before xs) (firstsAfter (before ++ (x ∷ [])) xs)) ≡ true) (x ∷ xs)
-    go true e f g = seen-kept x before xs e also f
-    go false e f g = seen-kept x (before ++ (x ∷ [])) xs (seen-last x before) also g
-
 at-its-place : (x d : Variable) (ys : List Variable) → seen x ys ≡ true → getD ys (placeOf x ys) d ≡ x
-unfolding seen placeOf
+unfolding seenBy placeBy
 at-its-place x d [] e = true-false e refl
 at-its-place x d (y ∷ ys) e = go (sameVariable x y) refl (at-its-place x d ys) e
   where
@@ -341,27 +286,6 @@ origin = record { copy = 0; number = 0 }
 
 pub put-back : List (Literal Variable) → ℕ → Term Variable
 put-back ls n = var (getD (firsts (occurringAll ls)) n origin)
-
--- the first occurrences are all different
-unseen-differs : (x : Variable) (ys : List Variable) → seen x ys ≡ false → All (λ y. y ≢ x) ys
-unfolding seen
-unseen-differs x [] e = end
-unseen-differs x (y ∷ ys) e = go (sameVariable x y) refl (unseen-differs x ys) e
-  where
-    go : (b : Bool) → sameVariable x y ≡ b → (seen x ys ≡ false → All (λ y. y ≢ x) ys) → cond b true (seen x ys) ≡ false → All (λ y. y ≢ x) (y ∷ ys)
-    go true f g e = true-false refl e
-    go false f g e = (λ h. true-false (ap (sameVariable x) h ∙ same-refl x) f) also g e
-
-firsts-differ : (before xs : List Variable) → Ordered (λ x y. x ≢ y) before → Ordered (λ x y. x ≢ y) (firstsAfter before xs)
-unfolding firstsAfter
-firsts-differ before [] o = o
-firsts-differ before (x ∷ xs) o = go (seen x before) refl (firsts-differ before xs o) (firsts-differ (before ++ (x ∷ [])) xs)
-  where
-    go : (b : Bool) → seen x before ≡ b → Ordered (λ x y. x ≢ y) (firstsAfter before xs)
-        → (Ordered (λ x y. x ≢ y) (before ++ (x ∷ [])) → Ordered (λ x y. x ≢ y) (firstsAfter (before ++ (x ∷ [])) xs))
-        → Ordered (λ x y. x ≢ y) (cond b (firstsAfter before xs) (firstsAfter (before ++ (x ∷ [])) xs))
-    go true e f g = f
-    go false e f g = g (ordered-append o (end ahead done) (all-then (λ y h. h also end) (unseen-differs x before e)))
 
 -- different variables of so few copies, with numbers below 16
 module _ (copies : ℕ) where
@@ -395,14 +319,14 @@ module _ (copies : ℕ) where
       h also coded-below xs (all-rest fs)
 
   pub few-variables : (xs : List Variable) → All Few xs → length (firsts xs) ≤ copies * 16
-  unfolding firsts
+  unfolding firstsBy
   few-variables xs fs =
       let ys = firstsAfter [] xs in
-      let gs = firsts-all [] xs end fs in
-      let l : length (map coded ys) ≤ copies * 16 = distinct-below (copies * 16) (map coded ys) (coded-ordered ys gs (firsts-differ [] xs done)) (coded-below ys gs) in
+      let gs = Firsts.firsts-all sameVariable [] xs end fs in
+      let l : length (map coded ys) ≤ copies * 16 = distinct-below (copies * 16) (map coded ys) (coded-ordered ys gs (Firsts.firsts-differ variables-told [] xs done)) (coded-below ys gs) in
       rw (length-map ys coded) at l
 
--- under every other solution the disjuncts are an instance of the numbered ones by one substitution
+-- under every other solution the disjuncts are an instance of the numbered ones by one substitution, each once
 maps-under-under :
     {X Y Z : Type 0} (τ : Y → Term Z) (σ : X → Term Y) (ds : List (List (Literal X)))
     → map (map (literalUnder τ)) (map (map (literalUnder σ)) ds) ≡ map (map (literalUnder (λ x. under τ (σ x)))) ds
@@ -431,22 +355,48 @@ maps-agree σ τ (d ∷ ds) a =
     (maps-agree σ τ ds (all-right (occurringAll d) (occurringAll (joined ds)) b))
 
 disjuncts-put-back : (ds : List (List (Literal Variable))) → map (map (literalUnder (put-back (joined ds)))) (numberedDisjuncts ds) ≡ ds
-unfolding numberedDisjuncts put-back firsts under
+unfolding numberedDisjuncts put-back firstsBy under
 disjuncts-put-back ds =
     maps-under-under (λ n. var (getD (firstsAfter [] (occurringAll (joined ds))) n origin))
     (λ x. var (placeOf x (firstsAfter [] (occurringAll (joined ds))))) ds
     ∙ maps-agree _ var ds
-    (all-then (λ x e. ap var (at-its-place x origin (firstsAfter [] (occurringAll (joined ds))) e)) (all-seen [] (occurringAll (joined ds))))
+    (all-then (λ x e. ap var (at-its-place x origin (firstsAfter [] (occurringAll (joined ds))) e)) (Firsts.all-seen variables-told [] (occurringAll (joined ds))))
     ∙ maps-under-var ds
 
 pub disjuncts-general :
     (t : Table) (x : Tableau) (ps : List Pair) (σ τ : Substitution) → MostGeneral σ ps → Solves τ ps
-    → (ρ : ℕ → Term Variable) × (disjuncts τ t x ≡ map (map (literalUnder ρ)) (numberedDisjuncts (disjuncts σ t x)))
+    → (ρ : ℕ → Term Variable) × (disjuncts τ t x ≡ firstsBy sameDisjunct (map (map (literalUnder ρ)) (numberedDisjuncts (disjuncts σ t x))))
+unfolding disjuncts
 disjuncts-general t x ps σ τ m s =
-    let ds = disjuncts σ t x in
+    let ds = firstsBy sameDisjunct (perCopy σ t x) in
     let ρ = m .general τ s in (
       λ n. under (ρ .0) (put-back (joined ds) n),
-      disjuncts-instance σ τ (ρ .0) (ρ .1) t x
-          ∙ ap (map (map (literalUnder (ρ .0)))) (sym (disjuncts-put-back ds))
-          ∙ maps-under-under (ρ .0) (put-back (joined ds)) (numberedDisjuncts ds),
+      ap (firstsBy sameDisjunct) (copies-instance σ τ (ρ .0) (ρ .1) t x)
+          ∙ sym (Firsts.firsts-mapped disjuncts-told disjuncts-told (map (literalUnder (ρ .0))) (perCopy σ t x))
+          ∙ ap (λ (ds : List (List (Literal Variable))). firstsBy sameDisjunct (map (map (literalUnder (ρ .0))) ds)) (sym (disjuncts-put-back ds))
+          ∙ ap (firstsBy sameDisjunct) (maps-under-under (ρ .0) (put-back (joined ds)) (numberedDisjuncts ds)),
     )
+
+-- no two of the numbered disjuncts are equal
+pub ordered-different : {A : Type 0} {xs : List A} → Ordered (λ x y. x ≢ y) xs → AllDifferent xs
+unfolding AllDifferent
+ordered-different done = tt
+ordered-different (a ahead o) = (Firsts.all-each a, ordered-different o)
+
+-- what is put back as it was, was different
+undone-different : {A B : Type 0} (f : A → B) (xs : List A) → Ordered (λ x y. x ≢ y) (map f xs) → Ordered (λ x y. x ≢ y) xs
+undone-different f [] o = done
+undone-different {A} f (x ∷ xs) (a ahead o) = go xs a ahead undone-different f xs o
+  where
+    go : (ys : List A) → All (λ z. f x ≢ z) (map f ys) → All (λ y. x ≢ y) ys
+    go [] b = end
+    go (y ∷ ys) b = (λ e. all-first b (ap f e)) also go ys (all-rest b)
+
+pub different-disjuncts : (σ : Substitution) (t : Table) (x : Tableau) → AllDifferent (numberedDisjuncts (disjuncts σ t x))
+unfolding disjuncts firstsBy
+different-disjuncts σ t x =
+    let ds = firstsAfterBy sameDisjunct [] (perCopy σ t x) in
+    let back : map (map (literalUnder (put-back (joined ds)))) (numberedDisjuncts ds) ≡ ds = disjuncts-put-back ds in
+    ordered-different
+    (undone-different (map (literalUnder (put-back (joined ds)))) (numberedDisjuncts ds)
+    (subst (Ordered (λ x y. x ≢ y)) (sym back) (Firsts.firsts-differ disjuncts-told [] (perCopy σ t x) done)))

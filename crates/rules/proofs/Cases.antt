@@ -19,7 +19,7 @@ use Rattle.rules.specs.Machinery.Unify.{replace, solution, through, foll
 use Rattle.rules.specs.Setting.{Setting, base}
 use Rattle.rules.specs.Tableau.{fresh, copyOf, atom, fits, hang, start, ancestor, others, closing, reduced, questionsWith, entered, extended, treated, stepped, Closed}
 use Rattle.rules.specs.Order.{Before, reductions, entries, extensions, candidatesAt, candidates, allClosed}
-use Rattle.rules.specs.Answer.{positive, disjunct, disjuncts, occurring, occurringAll, seen, firstsAfter, firsts, placeOf, numbered, joined, answerWords}
+use Rattle.rules.specs.Answer.{positive, disjunct, perCopy, sameTerm, sameLiteral, sameDisjunct, seenBy, firstsAfterBy, firstsBy, placeBy, disjuncts, occurring, occurringAll, numbered, joined, answerWords}
 use Rattle.rules.specs.Verdict.{statusOf, SearchVerdict, finds, finds-none, runs-out}
 use Rattle.rules.specs.Machinery.Run as Run
 use Rattle.rules.specs.Machinery.Play.{begin, boundBy, newest, performed, perform, Checking, passed, stopped, atEnd, refusal, onwards, checkFrom, check, checked, afterwards, mostAdded, stepsLeft, reported, searchFor, answerOf, disjunctsOf}
@@ -44,7 +44,7 @@ without status tries = record { status = status; place = 0; proof = []; disjunct
 
 abbrev pub with-answer : Table → List ℕ → ℕ → Checking → Returned
 with-answer t proof tries (passed p) =
-    record { status = 0; place = 0; proof = proof; disjuncts = disjunctsOf p; answer = answerOf t p; tries = tries }
+    record { status = 0; place = 0; proof = proof; disjuncts = disjunctsOf t p; answer = answerOf t p; tries = tries }
 with-answer t proof tries (stopped r place) = refusedAt (statusOf r) place
 
 -- a call on a table: a search with a bound and a budget, or a check of a proof with a bound
@@ -205,7 +205,7 @@ expected =
     ∷ []
 
 unfoldable pub played : Unit {0}
-unfolding opened product mixed fnv wordBytes bytesOf wellFormed stepWord encoded stepOf sizeFits trailerFits fingerprintFits clausesFit judgeRead judgeBody judge under literalUnder replace solution through follow occurs after unlessOccurs bind unlessSame sameSymbol ifSame meetBy eachBy compareWithin height variables heightOf variablesOf doubled enough unifies meet unify fresh copyOf atom fits hang start ancestor others closing reduced questionsWith entered extended treated stepped reductions entries extensions candidatesAt candidates positive disjunct disjuncts occurring occurringAll seen firstsAfter firsts placeOf numbered joined answerWords Run.put Run.after Run.spend Run.enter Run.inTurn Run.visit Run.search begin boundBy newest performed perform atEnd refusal onwards checkFrom check checked afterwards allClosed mostAdded stepsLeft reported searchFor answerOf disjunctsOf
+unfolding opened product mixed fnv wordBytes bytesOf wellFormed stepWord encoded stepOf sizeFits trailerFits fingerprintFits clausesFit judgeRead judgeBody judge under literalUnder replace solution through follow occurs after unlessOccurs bind unlessSame sameSymbol ifSame meetBy eachBy compareWithin height variables heightOf variablesOf doubled enough unifies meet unify fresh copyOf atom fits hang start ancestor others closing reduced questionsWith entered extended treated stepped reductions entries extensions candidatesAt candidates positive disjunct perCopy sameTerm sameLiteral sameDisjunct seenBy firstsAfterBy firstsBy placeBy disjuncts occurring occurringAll numbered joined answerWords Run.put Run.after Run.spend Run.enter Run.inTurn Run.visit Run.search begin boundBy newest performed perform atEnd refusal onwards checkFrom check checked afterwards allClosed mostAdded stepsLeft reported searchFor answerOf disjunctsOf
 played = tt
 
 -- the starred cases

@@ -4,7 +4,7 @@ use borrow.Author.Tests.{eq-eqb, ne-eqb}
 use lib.Dec.{eqb}
 use lib.ListN.{length, getElem?}
 use mathlib.Core.Bool.{Bool, true, false, cond, not, _||_}
-use mathlib.Core.List.{List, [], _∷_, map}
+use mathlib.Core.List.{List, [], _∷_, _++_, map, map-append}
 use mathlib.Core.Logic.{_⊎_, inl, inr}
 use mathlib.Core.Option.{some}
 use mathlib.Core.Path.{_≡_, refl, sym, _∙_, ap, ap₂}
@@ -16,10 +16,13 @@ use Rattle.table.specs.Syntax.{under, Literal, literalUnder, Clause, Table, all
 use Rattle.rules.specs.Substitution.{Variable, Substitution, Solves}
 use Rattle.rules.specs.Setting.{Profile, Setting}
 use Rattle.rules.specs.Tableau.{Leaf, Closed}
-use Rattle.rules.specs.Answer.{disjuncts}
+use Rattle.rules.specs.Answer.{sameDisjunct, seenBy, firstsAfterBy, firstsBy, perCopy}
 use Rattle.rules.specs.Truth.{AllNegative}
 use Rattle.rules.specs.System.{_∈_, first, later}
 use Rattle.rules.specs.Evidence.{Valuation, literalTrue, clauseTrue, Ground, Grounding, groundInstance, InstanceOf, AllInstancesTrue, InstancesTrue, QuestionsTrue, Evidence, turned}
+use Rattle.rules.proofs.Every as Every
+use Rattle.rules.proofs.Firsts.{all-back}
+use Rattle.rules.proofs.Sameness.{disjuncts-told}
 use Rattle.rules.proofs.Evidence.{through, clause-through, literals-under, turned-over}
 use Rattle.rules.proofs.Instances.{Instance, instance, opposite}
 use Rattle.rules.proofs.Lifting.{treeUnder, tree-questions}
@@ -129,9 +132,65 @@ module _ {S : Setting} {steps : List Step} (c : Closed S steps) (σ : Substituti
   -- whose instances of the question are the disjuncts, turned over
   pub closed-asks : (v : Valuation ⊥) (h : AllInstancesTrue v (S .table .clauses)) → AllNegative (S .table .question .literals)
       → map (λ θ. groundInstance θ (S .table .question)) (closed-evidence v h .questions)
-      ≡ map (λ d. map turned (map (literalUnder ρ) d)) (disjuncts σ (S .table) (c .tableau))
-  unfolding closed-evidence disjuncts
+      ≡ map (λ d. map turned (map (literalUnder ρ) d)) (perCopy σ (S .table) (c .tableau))
+  unfolding closed-evidence perCopy
   closed-asks v h n =
       let t : Table = S .table in
       let ds = disjuncts-instances σ (t .question) (c .tableau .questions) ∙ ap (map (disjunctOf (t .question))) (tree-questions c σ solves) in
       rw ds (disjuncts-asked ρ t n (tree .root ∷ asked (tree .tree)))
+
+-- evidence may ask each instance once: of instances that are what some list makes them, those of its firsts are enough
+module _ (t : Table) (F : List (Literal Variable) → List (Literal ⊥)) where
+  abbrev Asks : List Grounding → List (List (Literal Variable)) → Type 0
+  Asks θs ds = map (λ θ. groundInstance θ (t .question)) θs ≡ map F ds
+
+  picked : (before : List (List (Literal Variable))) (chosen : List Grounding) → Asks chosen before → (ds : List (List (Literal Variable))) (θs : List Grounding) → Asks θs ds
+      → (γs : List Grounding) × Asks γs (firstsAfterBy sameDisjunct before ds)
+  unfolding firstsAfterBy
+  picked before chosen e [] θs h = (chosen, e)
+  picked before chosen e (d ∷ ds) [] h = absurd (none-there h)
+    where
+      none-there : [] ≡ F d ∷ map F ds → ⊥
+      none-there h = let z : _≡_ {A = ℕ} 0 1 = cc in omega arith
+  picked before chosen e (d ∷ ds) (θ ∷ θs) h =
+      go (seenBy sameDisjunct d before) (picked before chosen e ds θs cc)
+      (picked (before ++ (d ∷ [])) (chosen ++ (θ ∷ []))
+      (map-append (λ θ. groundInstance θ (t .question)) chosen (θ ∷ []) ∙ ap₂ _++_ e (cc) ∙ sym (map-append F before (d ∷ []))) ds θs cc)
+    where
+      go : (b : Bool) → ((γs : List Grounding) × Asks γs (firstsAfterBy sameDisjunct before ds)) → ((γs : List Grounding) × Asks γs (firstsAfterBy sameDisjunct (before ++ (d ∷ [])) ds))
+          → (γs : List Grounding) × Asks γs (cond b (firstsAfterBy sameDisjunct before ds) (firstsAfterBy sameDisjunct (before ++ (d ∷ [])) ds))
+      go true p q = p
+      go false p q = q
+
+  module _ (v : Valuation ⊥) where
+    made-true : (θs : List Grounding) (ds : List (List (Literal Variable))) → Asks θs ds → QuestionsTrue v (t .question) θs → Every.All (λ d. clauseTrue v (F d) ≡ true) ds
+    unfolding Each
+    made-true [] [] e q = Every.end
+    made-true [] (d ∷ ds) e q = absurd (let z : _≡_ {A = ℕ} 0 1 = cc in omega arith)
+    made-true (θ ∷ θs) [] e q = absurd (let z : _≡_ {A = ℕ} 0 1 = cc in omega arith)
+    made-true (θ ∷ θs) (d ∷ ds) e q =
+        let same : groundInstance θ (t .question) ≡ F d = cc in
+        Every._also_ (ap (clauseTrue v) (sym same) ∙ q .0) (made-true θs ds (cc) (q .1))
+
+    asked-true : (θs : List Grounding) (ds : List (List (Literal Variable))) → Asks θs ds → Every.All (λ d. clauseTrue v (F d) ≡ true) ds → QuestionsTrue v (t .question) θs
+    unfolding Each
+    asked-true [] ds e q = tt
+    asked-true (θ ∷ θs) [] e q = absurd (let z : _≡_ {A = ℕ} 0 1 = cc in omega arith)
+    asked-true (θ ∷ θs) (d ∷ ds) e q =
+        let same : groundInstance θ (t .question) ≡ F d = cc in
+        (ap (clauseTrue v) same ∙ Every.all-first q, asked-true θs ds (cc) (Every.all-rest q))
+
+pub asked-once : (t : Table) (e : Evidence t) (F : List (Literal Variable) → List (Literal ⊥)) (ds : List (List (Literal Variable)))
+    → map (λ θ. groundInstance θ (t .question)) (e .questions) ≡ map F ds
+    → (once : Evidence t) × (map (λ θ. groundInstance θ (t .question)) (once .questions) ≡ map F (firstsBy sameDisjunct ds))
+unfolding firstsBy
+asked-once t e F ds h =
+    let p = picked t F [] [] refl ds (e .questions) h in (
+      record {
+        clauses = e .clauses;
+        questions = p .0;
+        impossible = λ v k. e .impossible v (k .0, asked-true t F v (e .questions) ds h (all-back disjuncts-told ds (made-true t F v (p .0) (firstsAfterBy sameDisjunct [] ds) (p .1) (k .1))));
+        possible = e .possible;
+      },
+      p .1,
+    )

@@ -3,7 +3,7 @@ use borrow.Author.Tests.{le-leb, lt-ltb}
 use lib.ListN.{length}
 use mathlib.Core.List.{List, [], _∷_, map}
 use mathlib.Core.Logic.{_≢_}
-use mathlib.Core.Path.{_≡_, refl, sym, _∙_, ap₂}
+use mathlib.Core.Path.{_≡_, refl, sym, _∙_, ap, ap₂}
 use native.Mathlib.Decide.{decLt}
 use native.Mathlib.Omega.{arith}
 use Prim.Native.Nat.{ℕ, _≤_, _<_}
@@ -12,33 +12,36 @@ use Rattle.words.specs.declared.Step.{Step}
 use Rattle.words.specs.declared.Step.the-variants.{Reduction, Extension, Malformed}
 use Rattle.words.proofs.Roundtrip.{decode-encoded}
 use Rattle.table.specs.Limits.{Each, ClauseWithin}
-use Rattle.table.specs.Syntax.{app, nil, Clause, Table, allClauses}
+use Rattle.table.specs.Syntax.{app, nil, literalUnder, Clause, Table, allClauses}
 use Rattle.rules.specs.Machinery.Unify.{solution}
 use Rattle.rules.specs.Setting.{Setting, everyLeaf, over, base}
 use Rattle.rules.specs.Tableau.{start, Closed}
 use Rattle.rules.specs.Order.{Ending, found, nothing, Searched}
 use Rattle.rules.specs.Locality.{renumbered}
 use Rattle.rules.specs.Growing.{moved}
-use Rattle.rules.specs.Evidence.{Evidence, enough}
-use Rattle.rules.specs.Answer.{disjunctsIn}
+use Rattle.rules.specs.Evidence.{Evidence, enough, turned}
+use Rattle.rules.specs.Answer.{perCopy, disjuncts, disjunctsIn}
 use Rattle.rules.specs.Verdict.{accepted, Checks, finds, finds-none, runs-out, ended}
 use Rattle.rules.specs.Machinery.Play.{Play, Checking, passed, stopped, check, checked, searchFor, answerOf, disjunctsOf}
 use Rattle.rules.specs.Demands
 use Rattle.rules.proofs.System.Clash.{clash}
 use Rattle.rules.proofs.Lists.{All}
-use Rattle.rules.proofs.Locality.{local-check, local-closed, same-words}
+use Rattle.rules.proofs.FirstPlaces as FirstPlaces
+use Rattle.rules.proofs.FirstPlaces.{firsts-at-first-places}
+use Rattle.rules.proofs.Sameness.{disjuncts-told}
+use Rattle.rules.proofs.Locality.{local-check, local-closed, same-disjuncts, same-words}
 use Rattle.rules.proofs.Growing.{raised-check, larger-copied}
 use Rattle.rules.proofs.Lengths.{InRange}
 use Rattle.rules.proofs.Candidates.{never-both-before}
 use Rattle.rules.proofs.Checker.{checker-says, one-verdict, accepted-closed, closed-accepted, passed-sound}
 use Rattle.rules.proofs.Search.{stated-start, stated-once, program-within, program-beyond, program-searches, one-search, stated-first, FirstClosed}
-use Rattle.rules.proofs.Answer.{answer-once, disjuncts-general}
+use Rattle.rules.proofs.Answer.{number-once, answer-once, disjuncts-general, different-disjuncts}
 use Rattle.rules.proofs.Variables.{at-most-528}
 use Rattle.rules.proofs.Reading.{answer-read, answer-reads}
 use Rattle.rules.proofs.ClosedTableaux.{proof-length, step-numbers, answers-hold-as-numbered, larger-bound, larger-table, order-of-clauses}
 use Rattle.rules.proofs.Play.{most-general}
-use Rattle.rules.proofs.Evidence.{covers-under, answered}
-use Rattle.rules.proofs.Contradictions.{closed-evidence, closed-asks}
+use Rattle.rules.proofs.Evidence.{covers-under, covers-all, answered}
+use Rattle.rules.proofs.Contradictions.{closed-evidence, closed-asks, asked-once}
 
 -- the checker
 pub checker-follows-the-rules : Demands.CheckerFollowsTheRules
@@ -162,7 +165,7 @@ accepted-has-answer S steps p e =
 
 pub one-answer : Demands.OneAnswer
 one-answer t x c d ws vs a b = (
-  a .counted ∙ sym (b .counted),
+  a .counted ∙ number-once t x (x .pairs) (a .by) (b .by) (a .general) (b .general) ∙ sym (b .counted),
   a .written ∙ answer-once t x (x .pairs) (a .by) (b .by) (a .general) (b .general) ∙ sym (b .written),
 )
 
@@ -173,6 +176,17 @@ pub answer-is-most-general : Demands.AnswerIsMostGeneral
 answer-is-most-general S limits low steps c count words a τ s =
     rw (a .written, answer-read S limits low c (a .by) (a .general))
     (disjuncts-general (S .table) (c .tableau) (c .tableau .pairs) (a .by) τ (a .general) s)
+
+pub no-disjunct-twice : Demands.NoDisjunctTwice
+no-disjunct-twice S limits low steps c count words a =
+    rw (a .written, answer-read S limits low c (a .by) (a .general)) (different-disjuncts (a .by) (S .table) (c .tableau))
+
+pub disjuncts-at-first-places : Demands.DisjunctsAtFirstPlaces
+unfolding disjuncts
+disjuncts-at-first-places σ t x = firsts-at-first-places disjuncts-told (perCopy σ t x)
+
+pub one-list-at-first-places : Demands.OneListAtFirstPlaces
+one-list-at-first-places = FirstPlaces.one-list-at-first-places
 
 -- the sizes
 pub short-clauses : (cs : List Clause) → Each ClauseWithin cs → All (λ c. length (c .literals) ≤ 7) cs
@@ -229,12 +243,12 @@ never-none-again rules t u larger bound higher l budget other tries more steps f
     stated-first (over rules u higher) nothing (said (over rules u higher) other {e = nothing} h) (map (moved larger) steps) d
 
 pub accepted-again : Demands.AcceptedAgain
-unfolding answerOf moved
+unfolding answerOf disjunctsOf moved
 accepted-again rules t u larger bound higher l steps p e =
     let same = larger-copied larger steps in (
       p,
       raised-check rules u l (map (moved larger) steps) (local-check same rules bound ∙ e),
-      refl,
+      ap length (same-disjuncts (solution (p .bindings)) t u (p .tableau) (larger .question)),
       same-words (solution (p .bindings)) t u (p .tableau) (larger .question),
     )
 
@@ -266,7 +280,8 @@ pub answer-words-cover : Demands.AnswerWordsCover
 answer-words-cover t e a limits negative low count words w =
     let c = a .closed in
     let ρ = answer-is-most-general (base t (a .bound)) limits low (a .steps) c count words w (w .by) (w .general .solves) in
-    covers-under (t .question) (e .questions) (ρ .0) (disjunctsIn (t .question) words) (rw (ρ .1) at (a .covers negative (w .by) (w .general)))
+    covers-under (t .question) (e .questions) (ρ .0) (disjunctsIn (t .question) words)
+    (covers-all (t .question) (e .questions) _ (rw (ρ .1) at (a .covers negative (w .by) (w .general))))
 
 pub never-none-with-evidence : Demands.NeverNoneWithEvidence
 never-none-with-evidence t e a higher h budget tries f =
@@ -307,4 +322,6 @@ evidence-exactly t v h = (
 )
 
 pub answer-is-evidence : Demands.AnswerIsEvidence
-answer-is-evidence t v h negative bound steps c σ solves ρ = (closed-evidence c σ solves ρ v h, closed-asks c σ solves ρ v h negative)
+unfolding disjuncts
+answer-is-evidence t v h negative bound steps c σ solves ρ =
+    asked-once t (closed-evidence c σ solves ρ v h) (λ d. map turned (map (literalUnder ρ) d)) (perCopy σ t (c .tableau)) (closed-asks c σ solves ρ v h negative)

@@ -10,13 +10,16 @@ use Rattle.table.specs.Limits.{Each}
 use Rattle.table.specs.Syntax.{Term, var, app, nil, under, unders, Literal, literalUnder, Clause, Table, allClauses}
 use Rattle.rules.specs.Substitution.{Variable, Substitution, Solves}
 use Rattle.rules.specs.Setting.{everyLeaf, base}
-use Rattle.rules.specs.Tableau.{hang, Closed}
-use Rattle.rules.specs.Answer.{positive, disjuncts}
+use Rattle.rules.specs.Tableau.{hang, Tableau, Closed}
+use Rattle.rules.specs.Answer.{positive, sameDisjunct, firstsBy, perCopy, disjuncts}
 use Rattle.rules.specs.Truth.{AllNegative}
 use Rattle.rules.specs.System.{_∈_, first, later}
 use Rattle.rules.specs.Evidence.{Valuation, literalTrue, clauseTrue, Ground, Grounding, groundInstance, InstanceOf, InstancesTrue, QuestionsTrue, Evidence, mostOthers, enough, turned, Covers}
 use Rattle.rules.specs.Demands.{Answered}
-use Rattle.rules.proofs.Answer.{disjuncts-instance}
+use Rattle.rules.proofs.Answer.{copies-instance}
+use Rattle.rules.proofs.Firsts.{each-all, all-each, firsts-all, all-back}
+use Rattle.rules.proofs.Sameness.{disjuncts-told}
+use Rattle.rules.proofs.Every as Every
 use Rattle.rules.proofs.Completeness.{Piece, literals, Rooted, begun}
 use Rattle.rules.proofs.Instances.{Instance, instance, literal-under}
 use Rattle.rules.proofs.Lifting.{lifted, lifted-asks}
@@ -102,6 +105,15 @@ covers-under {X} question γs ρ ds c = (λ x. under (c .0) (ρ x), go ds (c .1)
         → Each (λ d. (γ : Grounding) × (γ ∈ γs) × (map turned (map (literalUnder (λ x. under (c .0) (ρ x))) d) ≡ groundInstance γ question)) ds
     go [] h = tt
     go (d ∷ ds) h = ((h .0 .0, h .0 .1, ap (map turned) (sym (literals-under (c .0) ρ d)) ∙ h .0 .2), go ds (h .1))
+
+-- it does not matter whether a disjunct is said once
+covers-once : (question : Clause) (γs : List Grounding) (σ : Substitution) (t : Table) (x : Tableau)
+    → Covers question γs (perCopy σ t x) → Covers question γs (disjuncts σ t x)
+unfolding disjuncts firstsBy
+covers-once question γs σ t x c = (c .0, all-each (firsts-all sameDisjunct [] (perCopy σ t x) Every.end (each-all (perCopy σ t x) (c .1))))
+
+pub covers-all : (question : Clause) (γs : List Grounding) (ds : List (List (Literal Variable))) → Covers question γs (firstsBy sameDisjunct ds) → Covers question γs ds
+covers-all question γs ds c = (c .0, all-each (all-back disjuncts-told ds (each-all (firstsBy sameDisjunct ds) (c .1))))
 
 module _ (t : Table) (e : Evidence t) where
   -- an instance of the question in the evidence
@@ -195,8 +207,8 @@ module _ (t : Table) (e : Evidence t) where
 
   -- under one solution the disjuncts are the instances hung
   solved-covered : AllNegative (t .question .literals)
-      → (τ : Substitution) × Solves τ (closed .tableau .pairs) × Covers (t .question) (e .questions) (disjuncts τ t (closed .tableau))
-  unfolding closed tree disjuncts Each
+      → (τ : Substitution) × Solves τ (closed .tableau .pairs) × Covers (t .question) (e .questions) (perCopy τ t (closed .tableau))
+  unfolding closed tree perCopy Each
   solved-covered n =
       let k = lifted-asks tree own-size in
       let r = root in
@@ -214,6 +226,7 @@ module _ (t : Table) (e : Evidence t) where
         covers = λ n σ g.
             let s = solved-covered n in
             let ρ = g .general (s .0) (s .1) in
-            covers-under (t .question) (e .questions) (ρ .0) (disjuncts σ t (closed .tableau))
-            (rw (disjuncts-instance σ (s .0) (ρ .0) (ρ .1) t (closed .tableau)) at (s .2));
+            covers-once (t .question) (e .questions) σ t (closed .tableau)
+            (covers-under (t .question) (e .questions) (ρ .0) (perCopy σ t (closed .tableau))
+            (rw (copies-instance σ (s .0) (ρ .0) (ρ .1) t (closed .tableau)) at (s .2)));
       }

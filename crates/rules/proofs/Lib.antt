@@ -4,6 +4,7 @@ pub mod Instances
 pub mod Trees
 pub mod Lifting
 pub mod Refuted
+pub mod Sameness
 pub mod Truth
 pub mod Locality
 pub mod Growing
@@ -25,6 +26,8 @@ pub mod Demands
 pub mod Valuations
 pub mod Completeness
 pub mod Evidence
+pub mod Firsts
+pub mod FirstPlaces
 pub mod Contradictions
 pub mod Cases
 pub mod Witnesses

@@ -15,7 +15,7 @@ use Rattle.table.specs.Syntax.{Clause, Table, allClauses}
 use Rattle.rules.specs.Substitution.{Substitution}
 use Rattle.rules.specs.Setting.{Profile, over}
 use Rattle.rules.specs.Tableau.{Leaf, Tableau, start, questionsWith, extended, treated, stepped, Made, as-it-stands, by-step, Closed}
-use Rattle.rules.specs.Answer.{disjuncts, answerWords}
+use Rattle.rules.specs.Answer.{perCopy, disjuncts, answerWords}
 use Rattle.rules.specs.System.{_∈_, first, later}
 use Rattle.rules.specs.Machinery.Play.{Play, begin, perform, Performed, goes-on, not-possible, clashes, circular, Checking, refusal, onwards, checkFrom, check}
 use Rattle.rules.specs.Locality.{renumbered, SameClauseAt, SameCopied}
@@ -97,9 +97,13 @@ unfolding begin
 same-begin t u e = rw (same-start t u e)
 
 -- the answer depends on the question and the tableau alone
+pub same-disjuncts : (σ : Substitution) (t u : Table) (x : Tableau) → t .question ≡ u .question → disjuncts σ u x ≡ disjuncts σ t x
+unfolding disjuncts perCopy
+same-disjuncts σ t u x e = rw e
+
 pub same-words : (σ : Substitution) (t u : Table) (x : Tableau) → t .question ≡ u .question → answerWords σ u x ≡ answerWords σ t x
-unfolding answerWords disjuncts
-same-words σ t u x e = rw e
+unfolding answerWords
+same-words σ t u x e = rw (same-disjuncts σ t u x e)
 
 module _ {t u : Table} {number : ℕ → ℕ} {steps : List Step} (same : SameCopied t u number steps) where
   pub local-check : (rules : Profile) (bound : ℕ) → check (over rules u bound) (map (renumbered number) steps) ≡ check (over rules t bound) steps

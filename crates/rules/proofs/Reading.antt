@@ -15,10 +15,12 @@ use Rattle.table.proofs.Encoding.{literals-decoded, each-append}
 use Rattle.rules.specs.Substitution.{Variable, sameVariable, Substitution, MostGeneral}
 use Rattle.rules.specs.Setting.{Setting}
 use Rattle.rules.specs.Tableau.{copyOf, Tableau, Closed}
-use Rattle.rules.specs.Answer.{positive, disjunct, disjuncts, occurring, occurringIn, occurringAll, seen, firstsAfter, firsts, placeOf, numbered, joined, answerWords, groupsFrom, disjunctsIn, Reads}
+use Rattle.rules.specs.Answer.{positive, disjunct, sameDisjunct, seenBy, firstsBy, placeBy, perCopy, disjuncts, occurring, occurringIn, occurringAll, seen, firstsAfter, firsts, placeOf, numbered, joined, answerWords, groupsFrom, disjunctsIn, Reads}
 use Rattle.rules.proofs.Substitution.{arity-unders}
-use Rattle.rules.proofs.Every.{All, all-first, all-rest, all-left, all-right, true-false}
-use Rattle.rules.proofs.Answer.{numberedDisjuncts, numbered-once, all-seen}
+use Rattle.rules.proofs.Every.{All, end, _also_, all-first, all-rest, all-left, all-right, true-false}
+use Rattle.rules.proofs.Answer.{numberedDisjuncts, numbered-once}
+use Rattle.rules.proofs.Firsts.{all-seen, firsts-all}
+use Rattle.rules.proofs.Sameness.{variables-told}
 use Rattle.rules.proofs.Truth.{answer-words, flat-numbered}
 use Rattle.rules.proofs.Variables.{Held, Helds, Ranging, Own, few-in-answer, keeping, question-within}
 
@@ -51,7 +53,7 @@ read-once question some {ds = ds} r =
 
 -- the numbered literals of an answer are within the limits: a variable's number is its place among those that occur
 place-below : (x : Variable) (ys : List Variable) → seen x ys ≡ true → placeOf x ys < length ys
-unfolding seen placeOf
+unfolding seenBy placeBy
 place-below x [] e = true-false e refl
 place-below x (y ∷ ys) e = go (sameVariable x y) e (place-below x ys)
   where
@@ -94,21 +96,32 @@ module _ (P : Variable → Type 0) (fs : List Variable) (v : ℕ) (few : length 
 
 numbered-within : (P : Variable → Type 0) (ls : List (Literal Variable)) (v : ℕ) → length (firsts (occurringAll ls)) ≤ v → All (Ranging P) ls
     → Each (LiteralWithin v) (numbered ls)
-unfolding numbered firsts
-numbered-within P ls v few a = literals-placed P (firstsAfter [] (occurringAll ls)) v few ls a (all-seen [] (occurringAll ls))
+unfolding numbered firstsBy
+numbered-within P ls v few a = literals-placed P (firstsAfter [] (occurringAll ls)) v few ls a (all-seen variables-told [] (occurringAll ls))
+
+-- each disjunct has as many literals as the question, all positive
+disjunct-alike : (σ : Substitution) (question : Clause) (copy : ℕ) → length (disjunct σ question copy) ≡ length (question .literals)
+unfolding disjunct copyOf
+disjunct-alike σ question copy = length-map (copyOf copy question) _ ∙ length-map (question .literals) _
+
+all-map : {A B : Type 0} {P : B → Type 0} (f : A → B) → ((a : A) → P (f a)) → (xs : List A) → All P (map f xs)
+all-map f h [] = end
+all-map f h (x ∷ xs) = h x also all-map f h xs
+
+disjuncts-all : {P : List (Literal Variable) → Type 0} (σ : Substitution) (t : Table) (x : Tableau) → ((copy : ℕ) → P (disjunct σ (t .question) copy))
+    → All P (disjuncts σ t x)
+unfolding disjuncts perCopy firstsBy
+disjuncts-all σ t x h = firsts-all sameDisjunct [] _ end (all-map (disjunct σ (t .question)) h (x .questions))
 
 numbered-alike : (σ : Substitution) (t : Table) (x : Tableau)
     → Each (λ d. length d ≡ length (t .question .literals)) (numberedDisjuncts (disjuncts σ t x))
-unfolding Each numberedDisjuncts disjuncts disjunct copyOf
-numbered-alike σ t x = go _ (x .questions)
+unfolding Each numberedDisjuncts
+numbered-alike σ t x = go _ (disjuncts-all σ t x (disjunct-alike σ (t .question)))
   where
-    go : (f : Literal Variable → Literal ℕ) (qs : List ℕ)
-        → Each (λ d. length d ≡ length (t .question .literals)) (map (map f) (map (disjunct σ (t .question)) qs))
-    go f [] = tt
-    go f (q ∷ qs) = (
-      length-map (disjunct σ (t .question) q) f ∙ length-map (copyOf q (t .question)) _ ∙ length-map (t .question .literals) _,
-      go f qs,
-    )
+    go : (f : Literal Variable → Literal ℕ) {ds : List (List (Literal Variable))} → All (λ d. length d ≡ length (t .question .literals)) ds
+        → Each (λ d. length d ≡ length (t .question .literals)) (map (map f) ds)
+    go f end = tt
+    go f (_also_ {a = d} a b) = (length-map d f ∙ a, go f b)
 
 abbrev Positive : {X : Type 0} → List (Literal X) → Type 0
 Positive ls = Each (λ l. l .negative ≡ false) ls
@@ -118,22 +131,26 @@ unfolding Each literalUnder
 positive-under σ [] p = tt
 positive-under σ (l ∷ ls) p = (p .0, positive-under σ ls (p .1))
 
-disjuncts-positive : (σ : Substitution) (question : Clause) (qs : List ℕ) → Positive (joined (map (disjunct σ question) qs))
-unfolding Each joined disjunct literalUnder positive
-disjuncts-positive σ question [] = tt
-disjuncts-positive σ question (q ∷ qs) = each-append (λ l. l .negative ≡ false) (disjunct σ question q) _ (each (copyOf q question)) (disjuncts-positive σ question qs)
+disjunct-positive : (σ : Substitution) (question : Clause) (copy : ℕ) → Positive (disjunct σ question copy)
+unfolding Each disjunct literalUnder positive
+disjunct-positive σ question copy = each (copyOf copy question)
   where
     each : (ls : List (Literal Variable)) → Positive (map (λ l. literalUnder σ (positive l)) ls)
     each [] = tt
     each (l ∷ ls) = (refl, each ls)
 
-numbered-positive : (σ : Substitution) (t : Table) (x : Tableau) → Positive (flatten (numberedDisjuncts (disjuncts σ t x)))
-unfolding disjuncts numbered
-numbered-positive σ t x = rw (← flat-numbered (disjuncts σ t x)) (positive-under _ (joined (disjuncts σ t x)) (disjuncts-positive σ (t .question) (x .questions)))
+joined-positive : {ds : List (List (Literal Variable))} → All Positive ds → Positive (joined ds)
+unfolding Each joined
+joined-positive end = tt
+joined-positive (_also_ {a = d} {xs = ds} a b) = each-append (λ (l : Literal Variable). l .negative ≡ false) d (joined ds) a (joined-positive b)
 
-pub numbered-count : (σ : Substitution) (t : Table) (x : Tableau) → length (numberedDisjuncts (disjuncts σ t x)) ≡ length (x .questions)
-unfolding numberedDisjuncts disjuncts
-numbered-count σ t x = length-map (map (disjunct σ (t .question)) (x .questions)) _ ∙ length-map (x .questions) _
+numbered-positive : (σ : Substitution) (t : Table) (x : Tableau) → Positive (flatten (numberedDisjuncts (disjuncts σ t x)))
+unfolding numbered
+numbered-positive σ t x = rw (← flat-numbered (disjuncts σ t x)) (positive-under _ (joined (disjuncts σ t x)) (joined-positive (disjuncts-all σ t x (disjunct-positive σ (t .question)))))
+
+pub numbered-count : (σ : Substitution) (t : Table) (x : Tableau) → length (numberedDisjuncts (disjuncts σ t x)) ≡ length (disjuncts σ t x)
+unfolding numberedDisjuncts
+numbered-count σ t x = length-map (disjuncts σ t x) _
 
 module _ (S : Setting) (limits : Within (S .table)) (low : S .bound ≤ 32) {steps : List Step} (c : Closed S steps) (σ : Substitution) (g : MostGeneral σ (c .tableau .pairs)) where
   -- the literals of the answer are within the limits of words
@@ -144,7 +161,7 @@ module _ (S : Setting) (limits : Within (S .table)) (low : S .bound ≤ 32) {ste
       let same = numbered-once (S .table) (c .tableau) (c .tableau .pairs) (k .by) σ (k .general) g in
       rw (← same) (numbered-within (Own S limits) (joined (disjuncts (k .by) (S .table) (c .tableau))) (2 ^ 10) (omega arith) (k .answer))
 
-  numbered-reads : Reads (S .table .question) (answerWords σ (S .table) (c .tableau)) (length (c .tableau .questions)) (numberedDisjuncts (disjuncts σ (S .table) (c .tableau)))
+  numbered-reads : Reads (S .table .question) (answerWords σ (S .table) (c .tableau)) (length (disjuncts σ (S .table) (c .tableau))) (numberedDisjuncts (disjuncts σ (S .table) (c .tableau)))
   numbered-reads = record {
     counted = numbered-count σ (S .table) (c .tableau);
     alike = numbered-alike σ (S .table) (c .tableau);
@@ -157,5 +174,5 @@ module _ (S : Setting) (limits : Within (S .table)) (low : S .bound ≤ 32) {ste
   pub answer-read : disjunctsIn (S .table .question) (answerWords σ (S .table) (c .tableau)) ≡ numberedDisjuncts (disjuncts σ (S .table) (c .tableau))
   answer-read = sym (read-once (S .table .question) (question-within (S .table) limits .some) numbered-reads)
 
-  pub answer-reads : Reads (S .table .question) (answerWords σ (S .table) (c .tableau)) (length (c .tableau .questions)) (disjunctsIn (S .table .question) (answerWords σ (S .table) (c .tableau)))
+  pub answer-reads : Reads (S .table .question) (answerWords σ (S .table) (c .tableau)) (length (disjuncts σ (S .table) (c .tableau))) (disjunctsIn (S .table .question) (answerWords σ (S .table) (c .tableau)))
   answer-reads = rw answer-read numbered-reads

@@ -6,7 +6,7 @@ use mathlib.Core.Bool.{Bool, true, false, true≢false, cond, not, _&&_, _||_}
 use mathlib.Core.List.{List, [], _∷_, _++_, map, map-map, map-append, flatten}
 use mathlib.Core.Logic.{_⊎_, inl, inr}
 use mathlib.Core.Option.{some}
-use mathlib.Core.Path.{_≡_, refl, sym, _∙_, ap, fun-ext}
+use mathlib.Core.Path.{_≡_, refl, sym, _∙_, ap, ap₂, fun-ext}
 use native.Mathlib.Omega.{arith}
 use Prim.Native.Nat.{ℕ, zero, suc, _<_}
 use Rattle.words.specs.declared.Step.{Step}
@@ -15,10 +15,14 @@ use Rattle.table.specs.Encode.{literalsWords}
 use Rattle.rules.specs.Substitution.{Variable, Substitution, Solves}
 use Rattle.rules.specs.Setting.{Profile, Setting}
 use Rattle.rules.specs.Tableau.{copyOf, Leaf, Tableau, Closed}
-use Rattle.rules.specs.Answer.{positive, disjunct, disjuncts, joined, numbered, answerWords}
+use Rattle.rules.specs.Answer.{positive, disjunct, sameDisjunct, firstsBy, perCopy, disjuncts, joined, numbered, answerWords}
 use Rattle.rules.specs.Truth.{Interpretation, Assignment, AllNegative, value, values, atomTrue, literalTrue, someTrue, allTrue}
 use Rattle.rules.specs.Truth.{someAllTrue, Holds, AllHold, AnswerHolds}
 use Rattle.rules.proofs.Answer.{numberedDisjuncts}
+use Rattle.rules.proofs.Every as Every
+use Rattle.rules.proofs.Firsts.{all-back}
+use Rattle.rules.proofs.Sameness.{disjuncts-told}
+use Rattle.rules.proofs.Unify.Tests.{or-left, or-right}
 use Rattle.rules.proofs.Instances.{Instance, instance, opposite, ofCopy, copy-under}
 use Rattle.rules.proofs.Lifting.{treeUnder, tree-questions}
 use Rattle.rules.proofs.Lists.{All, last-or-before, none-some}
@@ -195,17 +199,43 @@ module _ (I : Interpretation) (t : Table) (a : Assignment I Variable) (hold : Al
   some-all-true x true e = refl
   some-all-true x false e = let d = none-all-true (x .root ∷ asked (x .tree)) e in absurd (denied-false I t a hold x (d .0) (d .1))
 
--- the answer of a closed tableau holds where all clauses but the question hold
-pub answer-holds : (I : Interpretation) (S : Setting) {steps : List Step} (c : Closed S steps) (σ : Substitution)
+-- what the copies of the question say holds where all clauses but the question hold
+copies-hold : (I : Interpretation) (S : Setting) {steps : List Step} (c : Closed S steps) (σ : Substitution)
     → Solves σ (c .tableau .pairs) → AllNegative (S .table .question .literals) → AllHold I (S .table .clauses)
-    → AnswerHolds I (disjuncts σ (S .table) (c .tableau))
-unfolding AnswerHolds disjuncts
-answer-holds I S c σ solves negative hold = λ a.
+    → AnswerHolds I (perCopy σ (S .table) (c .tableau))
+unfolding AnswerHolds perCopy
+copies-hold I S c σ solves negative hold = λ a.
     let t : Table = S .table in
     let x = treeUnder c σ solves in
     let e : map (disjunct σ (t .question)) (c .tableau .questions) ≡ map (disjunctOf (t .question)) (x .root ∷ asked (x .tree)) =
     disjuncts-instances σ (t .question) (c .tableau .questions) ∙ ap (map (disjunctOf (t .question))) (tree-questions c σ solves) in
     rw e (some-all-true I t a hold negative x _ refl)
+
+-- and so does the answer, which says each of it once
+none-true : (I : Interpretation) {X : Type 0} (a : X → ℕ) (ds : List (List (Literal X))) → someAllTrue I a ds ≡ false → Every.All (λ d. allTrue I a d ≡ false) ds
+unfolding someAllTrue
+none-true I a [] e = Every.end
+none-true I a (d ∷ ds) e = Every._also_ (or-left (allTrue I a d) _ e) (none-true I a ds (or-right (allTrue I a d) _ e))
+
+all-false : (I : Interpretation) {X : Type 0} (a : X → ℕ) {ds : List (List (Literal X))} → Every.All (λ d. allTrue I a d ≡ false) ds → someAllTrue I a ds ≡ false
+unfolding someAllTrue
+all-false I a Every.end = refl
+all-false I a (Every._also_ e es) = ap₂ _||_ e (all-false I a es)
+
+once-holds : (I : Interpretation) (ds : List (List (Literal Variable))) → AnswerHolds I ds → AnswerHolds I (firstsBy sameDisjunct ds)
+unfolding AnswerHolds
+once-holds I ds h = λ a. go a (someAllTrue I (a .element) (firstsBy sameDisjunct ds)) refl
+  where
+    go : (a : Assignment I Variable) (b : Bool) → someAllTrue I (a .element) (firstsBy sameDisjunct ds) ≡ b → b ≡ true
+    go a true e = refl
+    go a false e =
+        Every.true-false (h a) (all-false I (a .element) (all-back disjuncts-told ds (none-true I (a .element) (firstsBy sameDisjunct ds) e)))
+
+pub answer-holds : (I : Interpretation) (S : Setting) {steps : List Step} (c : Closed S steps) (σ : Substitution)
+    → Solves σ (c .tableau .pairs) → AllNegative (S .table .question .literals) → AllHold I (S .table .clauses)
+    → AnswerHolds I (disjuncts σ (S .table) (c .tableau))
+unfolding disjuncts
+answer-holds I S c σ solves negative hold = once-holds I (perCopy σ (S .table) (c .tableau)) (copies-hold I S c σ solves negative hold)
 
 -- the words of an answer are those of its numbered disjuncts, one after another
 flat-joined : (f : Literal Variable → Literal ℕ) (ds : List (List (Literal Variable))) → map f (joined ds) ≡ flatten (map (map f) ds)

@@ -14,7 +14,7 @@ use Rattle.rules.specs.Substitution.{Variable, Substitution, Pair, MostG
 use Rattle.rules.specs.Machinery.Unify.{Bindings, replace, solution, made}
 use Rattle.rules.specs.Setting.{Setting}
 use Rattle.rules.specs.Tableau.{fresh, copyOf, atom, closing, Leaf, Tableau, hang, start, ancestor, others, questionsWith, Made, as-it-stands, by-step, Closed}
-use Rattle.rules.specs.Answer.{positive, disjunct, disjuncts, occurring, occurringIn, occurringAll, firsts, joined}
+use Rattle.rules.specs.Answer.{positive, disjunct, sameDisjunct, firstsBy, perCopy, disjuncts, occurring, occurringIn, occurringAll, firsts, joined}
 use Rattle.table.specs.Limits as Limits
 use Rattle.table.specs.Limits.{TermWithin, TermsWithin, LiteralWithin, ClauseWithin}
 use Rattle.rules.proofs.Substitution.{arity-unders}
@@ -24,6 +24,7 @@ use Rattle.rules.proofs.Unify.Run.{Within, Each, Hereditary}
 use Rattle.rules.proofs.Instances.{ancestor-at}
 use Rattle.rules.proofs.Lists.{none-some, some-last}
 use Rattle.rules.proofs.Every.{All, end, _also_, all-first, all-rest, all-append, some-same}
+use Rattle.rules.proofs.Firsts.{firsts-all}
 use Rattle.rules.proofs.Steps.{Does, reduces, extends, does}
 use Rattle.rules.proofs.Answer.{Few, few-variables, count-once}
 
@@ -217,6 +218,11 @@ module _ (S : Setting) (limits : Limits.Within (S .table)) where
         z also end,
       )
 
+  all-joined : {P : Literal Variable → Type 0} {ds : List (List (Literal Variable))} → All (λ d. All P d) ds → All P (joined ds)
+  unfolding joined
+  all-joined end = end
+  all-joined (a also b) = all-append a (all-joined b)
+
   -- the disjuncts under a substitution that keeps to them
   module _ (σ : Substitution) (keeps : Kept Own σ) where
     disjunct-own : (ls : List (Literal Variable)) → All (Ranging Own) ls → All (Ranging Own) (map (λ l. literalUnder σ (positive l)) ls)
@@ -227,12 +233,16 @@ module _ (S : Setting) (limits : Limits.Within (S .table)) where
         let few : arity (unders σ (l .arguments)) ≤ 4 = rw (arity-unders σ (l .arguments)) (r .1) in
         (r .0, few, helds-under Own σ keeps (l .arguments) (r .2)) also disjunct-own ls (all-rest a)
 
-    disjuncts-own : (qs : List ℕ) → All (λ q. q < suc (S .bound)) qs → All (Ranging Own) (joined (map (disjunct σ (S .table .question)) qs))
-    unfolding joined disjunct
-    disjuncts-own [] a = end
-    disjuncts-own (q ∷ qs) a =
-        all-append (disjunct-own (copyOf q (S .table .question)) (copy-ranging (suc (S .bound)) q (S .table .question) (all-first a) (question-within (S .table) limits)))
-        (disjuncts-own qs (all-rest a))
+    copies-own : (qs : List ℕ) → All (λ q. q < suc (S .bound)) qs → All (λ d. All (Ranging Own) d) (map (disjunct σ (S .table .question)) qs)
+    unfolding disjunct
+    copies-own [] a = end
+    copies-own (q ∷ qs) a =
+        disjunct-own (copyOf q (S .table .question)) (copy-ranging (suc (S .bound)) q (S .table .question) (all-first a) (question-within (S .table) limits))
+        also copies-own qs (all-rest a)
+
+    disjuncts-own : (x : Tableau) → All (λ q. q < suc (S .bound)) (x .questions) → All (Ranging Own) (joined (disjuncts σ (S .table) x))
+    unfolding disjuncts perCopy firstsBy
+    disjuncts-own x a = all-joined (firsts-all sameDisjunct [] (map (disjunct σ (S .table .question)) (x .questions)) end (copies-own (x .questions) a))
 
   all-occurring : (ls : List (Literal Variable)) → All (Ranging Own) ls → All Own (occurringAll ls)
   unfolding occurringAll
@@ -247,7 +257,7 @@ module _ (S : Setting) (limits : Limits.Within (S .table)) where
     pub answer : All (Ranging Own) (joined (disjuncts by (S .table) x))
 
   pub keeping : {ss : List Step} (c : Closed S ss) → Keeping (c .tableau)
-  unfolding disjuncts Within
+  unfolding Within
   keeping c =
       let r = made-ranging (c .made) (start-ranging .0) (start-ranging .1) in
       let m = made-unifiable (c .tableau .pairs) .1 (c .unifiable) in
@@ -255,7 +265,7 @@ module _ (S : Setting) (limits : Limits.Within (S .table)) where
       record {
         by = solution (m .0);
         general = made-general (c .tableau .pairs) (m .0) (m .1);
-        answer = disjuncts-own (solution (m .0)) (solution-held Own (m .0) w) (c .tableau .questions) (r .1);
+        answer = disjuncts-own (solution (m .0)) (solution-held Own (m .0) w) (c .tableau) (r .1);
       }
 
   pub few-in-answer :

@@ -13,11 +13,11 @@ use Rattle.words.specs.declared.Step.the-variants.{Extension}
 use Rattle.table.specs.Limits.{TermWithin, LiteralWithin, Each, ClauseWithin}
 use Rattle.table.specs.Syntax.{Term, var, app, Terms, nil, _then_, under, Literal, literalUnder, Clause, Table}
 use Rattle.table.proofs.Opened.{opened}
-use Rattle.rules.specs.Substitution.{Variable, Solves}
+use Rattle.rules.specs.Substitution.{Variable, Substitution, Solves, MostGeneral}
 use Rattle.rules.specs.Setting.{Setting, base}
 use Rattle.rules.specs.Tableau.{Tableau, Closed}
 use Rattle.rules.specs.Order.{Precedes, at-once, found, nothing}
-use Rattle.rules.specs.Answer.{groupsFrom, disjunctsIn}
+use Rattle.rules.specs.Answer.{groupsFrom, disjunctsIn, disjuncts, answerWords}
 use Rattle.rules.specs.Truth.{Interpretation, Assignment, AllNegative, value, atomTrue, literalTrue, someTrue, allTrue, someAllTrue, Holds, AllHold, AnswerHolds}
 use Rattle.rules.specs.System.{_∈_, first, later}
 use Rattle.rules.specs.Locality.{renumbered, SameClauseAt}
@@ -34,7 +34,7 @@ use Rattle.rules.proofs.System.Clash.{clash}
 use Rattle.rules.proofs.Cases.{played}
 use Rattle.rules.proofs.Compared.{fails-exactly, comparison-says}
 use Rattle.rules.proofs.Checker.{checker-says}
-use Rattle.rules.proofs.Demands.{said, closed-passed, none-exactly, found-is-first, found-is-accepted, accepted-has-answer, one-first}
+use Rattle.rules.proofs.Demands.{said, closed-passed, none-exactly, found-is-first, found-is-accepted, accepted-has-answer, one-answer, one-first}
 use Rattle.rules.proofs.Reading.{read-once}
 use Rattle.rules.proofs.Valuations.{possible?}
 
@@ -132,44 +132,58 @@ one-reading question some words count ds r =
     let e = read-once question some r in (e, sym (r .counted) ∙ ap (λ (es : List (List (Literal ℕ))). length es) e)
 
 -- what the checker says of the example's proof, computed
-countSaid : Checking → ℕ
-countSaid (passed p) = disjunctsOf p
-countSaid (stopped r place) = 0
+countSaid : Table → Checking → ℕ
+countSaid t (passed p) = disjunctsOf t p
+countSaid t (stopped r place) = 0
 
 wordsSaid : Table → Checking → List ℕ
 wordsSaid t (passed p) = answerOf t p
 wordsSaid t (stopped r place) = []
 
-count-said : (S : Setting) (steps : List Step) (c : Closed S steps) → length (c .tableau .questions) ≡ countSaid (check S steps)
-unfolding countSaid disjunctsOf
-count-said S steps c =
-    let p = closed-passed S steps c in ap (λ (x : Tableau). length (x .questions)) (sym (p .2)) ∙ sym (ap countSaid (p .1))
-
 answer-said : (S : Setting) (steps : List Step) (c : Closed S steps)
-    → Answers (S .table) (c .tableau) (countSaid (check S steps)) (wordsSaid (S .table) (check S steps))
+    → Answers (S .table) (c .tableau) (countSaid (S .table) (check S steps)) (wordsSaid (S .table) (check S steps))
 unfolding countSaid wordsSaid
 answer-said S steps c = let p = closed-passed S steps c in go (p .0) (p .1) (c .tableau) (p .2)
   where
     go : (p : Play) → check S steps ≡ passed p → (x : Tableau) → p .tableau ≡ x
-        → Answers (S .table) x (countSaid (check S steps)) (wordsSaid (S .table) (check S steps))
+        → Answers (S .table) x (countSaid (S .table) (check S steps)) (wordsSaid (S .table) (check S steps))
     go p e x f = rw (e, ← f) (accepted-has-answer S steps p e)
 
-case-one-count : (c : Closed (base W.season 2) W.proof) → length (c .tableau .questions) ≡ 2
-unfolding played countSaid
-case-one-count c = count-said (base W.season 2) W.proof c
+-- a proof has one answer, however many disjuncts it is said to have
+one-count : (S : Setting) (steps : List Step) (c : Closed S steps) {count : ℕ} {words : List ℕ} → Answers (S .table) (c .tableau) count words
+    → count ≡ countSaid (S .table) (check S steps)
+one-count S steps c {count} {words} a = one-answer (S .table) (c .tableau) count _ words _ a (answer-said S steps c) .0
+
+definite-by : (t : Table) (x : Tableau) (σ : Substitution) → MostGeneral σ (x .pairs) → Answers t x (length (disjuncts σ t x)) (answerWords σ t x)
+definite-by t x σ g = record { by = σ; general = g; counted = refl; written = refl }
+
+copiesSaid : Checking → ℕ
+copiesSaid (passed p) = length (p .tableau .questions)
+copiesSaid (stopped r place) = 0
+
+copies-said : (S : Setting) (steps : List Step) (c : Closed S steps) → length (c .tableau .questions) ≡ copiesSaid (check S steps)
+unfolding copiesSaid
+copies-said S steps c =
+    let p = closed-passed S steps c in ap (λ (x : Tableau). length (x .questions)) (sym (p .2)) ∙ sym (ap copiesSaid (p .1))
 
 pub case-one-answer : W.CaseOneAnswer
 unfolding played countSaid wordsSaid
-case-one-answer c = (answer-said (base W.season 2) W.proof c, λ words a. let wrong : _≡_ {A = ℕ} 1 2 = a .counted ∙ case-one-count c in absurd (omega arith))
+case-one-answer c = (
+  answer-said (base W.season 2) W.proof c,
+  λ words a. let wrong : _≡_ {A = ℕ} 1 2 = one-count (base W.season 2) W.proof c a in absurd (omega arith),
+)
 
 pub some-are-definite : W.SomeAreDefinite
-unfolding played countSaid
+unfolding played countSaid copiesSaid
 some-are-definite =
-    let S : Setting = base (W.asked (W.constant 2)) 1 in
-    let c : Closed S (Extension 0 0 ∷ []) = found-is-first S 1 (Extension 0 0 ∷ []) 1 refl .0 in (
-      λ d one. let wrong : _≡_ {A = ℕ} 1 2 = sym one ∙ case-one-count d in absurd (omega arith),
+    let S : Setting = base W.twiceTold 5 in
+    let c : Closed S W.twiceProof = found-is-first S 100 W.twiceProof 7 refl .0 in (
+      λ c σ g d.
+          let many : length (disjuncts σ W.season (c .tableau)) ≡ 2 = one-count (base W.season 2) W.proof c (definite-by W.season (c .tableau) σ g) in
+          absurd (let wrong : _≡_ {A = ℕ} 1 2 = sym d ∙ many in omega arith),
       c,
-      count-said S (Extension 0 0 ∷ []) c,
+      copies-said S W.twiceProof c,
+      λ σ g. one-count S W.twiceProof c (definite-by W.twiceTold (c .tableau) σ g),
     )
 
 pub definite-is-one : W.DefiniteIsOne

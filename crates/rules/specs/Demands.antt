@@ -1,19 +1,21 @@
 -- The demands (document 00) as statements, to be read beside document 01. Nothing is proved here; proofs/Demands.antt proves each of them.
 -- `check` and `searchFor` are programs: what they say is judged by Closed, Searched and Unifiable, which know nothing of how they go about it.
 use lib.ListN.{length}
+use mathlib.Core.Bool.{Bool}
 use mathlib.Core.List.{List, map}
 use mathlib.Core.Logic.{_↔_, _≢_}
 use mathlib.Core.Path.{_≡_}
 use Prim.Native.Nat.{ℕ, _≤_, _<_}
 use Rattle.words.specs.Steps.{encoded, stepOf}
 use Rattle.words.specs.declared.Step.{Step}
-use Rattle.table.specs.Limits.{Within}
-use Rattle.table.specs.Syntax.{Term, literalUnder, Table}
+use Rattle.table.specs.Limits.{Within, Each}
+use Rattle.table.specs.Syntax.{Term, Literal, literalUnder, Table}
 use Rattle.rules.specs.Substitution.{Variable, Substitution, Solves, MostGeneral}
 use Rattle.rules.specs.Setting.{Profile, Setting, over, base}
 use Rattle.rules.specs.Tableau.{Tableau, start, Closed}
 use Rattle.rules.specs.Order.{Before, Ending, Searched, First}
-use Rattle.rules.specs.Answer.{disjuncts, occurringAll, firsts, joined, disjunctsIn, Reads}
+use Rattle.rules.specs.Answer.{perCopy, sameDisjunct, firstsBy, placeBy, disjuncts, occurringAll, firsts, joined, disjunctsIn, Reads, AllDifferent, Ascending}
+use Rattle.rules.specs.System.{_∈_}
 use Rattle.rules.specs.Truth.{Interpretation, AllNegative, AllHold, TrueAnswer}
 use Rattle.rules.specs.Locality.{renumbered, SameCopied}
 use Rattle.rules.specs.Growing.{along, Larger, moved}
@@ -84,11 +86,11 @@ FoundIsAccepted =
     (S : Setting) (budget : ℕ) (steps : List Step) (tries : ℕ) → searchFor S budget ≡ finds steps tries
     → (p : Play) × (check S steps ≡ passed p)
 
--- with its most general answer: a disjunct for each copy of the question under a most general solution, no matter which;
+-- with its most general answer: the disjuncts of the copies of the question under a most general solution, no matter which;
 abbrev pub AcceptedHasAnswer : Type 0
 AcceptedHasAnswer =
     (S : Setting) (steps : List Step) (p : Play) → check S steps ≡ passed p
-    → Answers (S .table) (p .tableau) (disjunctsOf p) (answerOf (S .table) p)
+    → Answers (S .table) (p .tableau) (disjunctsOf (S .table) p) (answerOf (S .table) p)
 
 abbrev pub OneAnswer : Type 0
 OneAnswer =
@@ -100,12 +102,32 @@ AnswerIsRead =
     (S : Setting) → Within (S .table) → S .bound ≤ 32 → (steps : List Step) (c : Closed S steps) (count : ℕ) (words : List ℕ)
     → Answers (S .table) (c .tableau) count words → Reads (S .table .question) words count (disjunctsIn (S .table .question) words)
 
--- and the disjuncts under every other solution are an instance of them by one substitution.
+-- and the disjuncts under every other solution are an instance of them by one substitution: those that it makes equal appear once, at the first place.
 abbrev pub AnswerIsMostGeneral : Type 0
 AnswerIsMostGeneral =
     (S : Setting) → Within (S .table) → S .bound ≤ 32 → (steps : List Step) (c : Closed S steps) (count : ℕ) (words : List ℕ)
     → Answers (S .table) (c .tableau) count words → (τ : Substitution) → Solves τ (c .tableau .pairs)
-    → (ρ : ℕ → Term Variable) × (disjuncts τ (S .table) (c .tableau) ≡ map (map (literalUnder ρ)) (disjunctsIn (S .table .question) words))
+    → (ρ : ℕ → Term Variable)
+    × (disjuncts τ (S .table) (c .tableau) ≡ firstsBy sameDisjunct (map (map (literalUnder ρ)) (disjunctsIn (S .table .question) words)))
+
+-- No two of the disjuncts that are read in its words are equal.
+abbrev pub NoDisjunctTwice : Type 0
+NoDisjunctTwice =
+    (S : Setting) → Within (S .table) → S .bound ≤ 32 → (steps : List Step) (c : Closed S steps) (count : ℕ) (words : List ℕ)
+    → Answers (S .table) (c .tableau) count words → AllDifferent (disjunctsIn (S .table .question) words)
+
+-- Under every substitution, what each copy of the question says is among the disjuncts, they say nothing else, and they stand in the order of their
+-- first places among the copies. No other list is so.
+pub record AtFirstPlaces {A : Type 0} (same : A → A → Bool) (long short : List A) : Type 0 where
+  pub all-there : Each (λ d. d ∈ short) long
+  pub nothing-else : Each (λ d. d ∈ long) short
+  pub in-order : Ascending (map (λ d. placeBy same d long) short)
+
+abbrev pub DisjunctsAtFirstPlaces : Type 0
+DisjunctsAtFirstPlaces = (σ : Substitution) (t : Table) (x : Tableau) → AtFirstPlaces sameDisjunct (perCopy σ t x) (disjuncts σ t x)
+
+abbrev pub OneListAtFirstPlaces : Type 0
+OneListAtFirstPlaces = (long short other : List (List (Literal Variable))) → AtFirstPlaces sameDisjunct long short → AtFirstPlaces sameDisjunct long other → short ≡ other
 
 -- A proof has at most 199 steps, an answer at most 528 different variables.
 abbrev pub ProofIsShort : Type 0
@@ -128,7 +150,7 @@ abbrev pub AnswersHold : Type 0
 AnswersHold =
     (I : Interpretation) (S : Setting) → Within (S .table) → S .bound ≤ 32
     → AllNegative (S .table .question .literals) → AllHold I (S .table .clauses) → (steps : List Step) (p : Play) → check S steps ≡ passed p
-    → TrueAnswer I (S .table .question) (disjunctsOf p) (answerOf (S .table) p)
+    → TrueAnswer I (S .table .question) (disjunctsOf (S .table) p) (answerOf (S .table) p)
 
 -- A run that didn't run out gives the same result with a larger budget.
 abbrev pub LargerBudget : Type 0
@@ -146,7 +168,7 @@ NeverNoneAgain =
 abbrev pub AcceptedAgain : Type 0
 AcceptedAgain =
     (rules : Profile) (t u : Table) (larger : Larger t u) (bound higher : ℕ) → bound ≤ higher → (steps : List Step) (p : Play) → check (over rules t bound) steps ≡ passed p
-    → (q : Play) × (check (over rules u higher) (map (moved larger) steps) ≡ passed q) × (disjunctsOf q ≡ disjunctsOf p) × (answerOf u q ≡ answerOf t p)
+    → (q : Play) × (check (over rules u higher) (map (moved larger) steps) ≡ passed q) × (disjunctsOf u q ≡ disjunctsOf t p) × (answerOf u q ≡ answerOf t p)
 
 -- Other clauses do not matter: over a table that has the question and the clauses that the steps copy, perhaps under other numbers, the checker
 -- says the same of the renumbered steps, with the same answer words.

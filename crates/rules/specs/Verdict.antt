@@ -14,7 +14,7 @@ use Rattle.rules.specs.Comparison.{Reason, a-clash, a-circle, NewestFail
 use Rattle.rules.specs.Setting.{Setting}
 use Rattle.rules.specs.Tableau.{Leaf, Tableau, start, stepped}
 use Rattle.rules.specs.Order.{Ending, found, nothing, Searched}
-use Rattle.rules.specs.Answer.{answerWords}
+use Rattle.rules.specs.Answer.{disjuncts, answerWords}
 
 -- why the checker refuses, and the number of its status
 pub data Refusal : Type 0 where
@@ -72,5 +72,5 @@ pub data Searches (S : Setting) (budget : ℕ) : SearchVerdict → Type 0 where
 pub record Answers (t : Table) (x : Tableau) (count : ℕ) (words : List ℕ) : Type 0 where
   pub by : Substitution
   pub general : MostGeneral by (x .pairs)
-  pub counted : count ≡ length (x .questions)
+  pub counted : count ≡ length (disjuncts by t x)
   pub written : words ≡ answerWords by t x

@@ -10,7 +10,7 @@ use Rattle.words.specs.declared.Step.{Step}
 use Rattle.words.specs.declared.Step.the-variants.{Reduction, Extension, Malformed}
 use Rattle.table.specs.Limits.{Within, Each}
 use Rattle.table.specs.Syntax.{Term, var, app, nil, _then_, Literal, Clause, Table}
-use Rattle.rules.specs.Substitution.{Variable, Unifiable, MostGeneral}
+use Rattle.rules.specs.Substitution.{Variable, Substitution, Unifiable, MostGeneral}
 use Rattle.rules.specs.Comparison.{Reason, a-clash, a-circle, Fails}
 use Rattle.rules.specs.Setting.{base}
 use Rattle.rules.specs.Tableau.{Tableau, start, Closed}
@@ -76,6 +76,28 @@ mothers =
       question = record { variables = 1; literals = record { negative = true; predicate = 1; arguments = var 0 then var 0 then nil } ∷ [] };
     }
 
+-- Order 3's table, p(a); r or p(a); r or s; not s; asking p(X) and r, and its proof, which copies the question twice: p = 1, r = 2, s = 3, a = 1.
+abbrev pub plain : Bool → ℕ → Literal ℕ
+plain negative p = record { negative = negative; predicate = p; arguments = nil }
+
+abbrev pub about : Bool → Term ℕ → Literal ℕ
+about negative x = record { negative = negative; predicate = 1; arguments = x then nil }
+
+abbrev pub twiceTold : Table
+twiceTold =
+    record {
+      clauses =
+          record { variables = 0; literals = about false (constant 1) ∷ [] }
+          ∷ record { variables = 0; literals = plain false 2 ∷ about false (constant 1) ∷ [] }
+          ∷ record { variables = 0; literals = plain false 2 ∷ plain false 3 ∷ [] }
+          ∷ record { variables = 0; literals = plain true 3 ∷ [] }
+          ∷ [];
+      question = record { variables = 1; literals = about true (var 0) ∷ plain true 2 ∷ [] };
+    }
+
+abbrev pub twiceProof : List Step
+twiceProof = Extension 0 0 ∷ Extension 1 0 ∷ Extension 4 0 ∷ Extension 2 0 ∷ Extension 3 0 ∷ []
+
 -- TRUTH
 -- For every n ≥ 1 there is an interpretation, from any tables within its domain; and an assignment, from any elements.
 abbrev pub EveryDomain : Type 0
@@ -130,18 +152,20 @@ ReadAsTwo =
     (disjunctsIn which answer ≡ (matinee ∷ []) ∷ (evening ∷ []) ∷ []) × Reads which answer 2 (disjunctsIn which answer)
     × ¬ Reads which answer 2 ([] ∷ (matinee ∷ evening ∷ []) ∷ [])
 
--- It is the answer of its tableau, and no answer of one disjunct is. It is not definite; that of a fact is.
+-- It is the answer of its tableau, and no answer of one disjunct is. It is not definite; that of order 3's proof, which
+-- copies the question twice, is.
 abbrev pub CaseOneAnswer : Type 0
 CaseOneAnswer = (c : Closed (base season 2) proof) → Answers season (c .tableau) 2 answer × ((words : List ℕ) → ¬ Answers season (c .tableau) 1 words)
 
 abbrev pub SomeAreDefinite : Type 0
 SomeAreDefinite =
-    ((c : Closed (base season 2) proof) → ¬ Definite (c .tableau))
-    × (c : Closed (base (asked (constant 2)) 1) (Extension 0 0 ∷ [])) × Definite (c .tableau)
+    ((c : Closed (base season 2) proof) (σ : Substitution) → MostGeneral σ (c .tableau .pairs) → ¬ Definite σ season (c .tableau))
+    × (c : Closed (base twiceTold 5) twiceProof) × (length (c .tableau .questions) ≡ 2)
+    × ((σ : Substitution) → MostGeneral σ (c .tableau .pairs) → Definite σ twiceTold (c .tableau))
 
 -- An answer is definite exactly when it has one disjunct, and one of one disjunct holds exactly when that is true throughout.
 abbrev pub DefiniteIsOne : Type 0
-DefiniteIsOne = (t : Table) (x : Tableau) (count : ℕ) (words : List ℕ) → Answers t x count words → Definite x ↔ (count ≡ 1)
+DefiniteIsOne = (t : Table) (x : Tableau) (count : ℕ) (words : List ℕ) (a : Answers t x count words) → Definite (a .by) t x ↔ (count ≡ 1)
 
 abbrev pub DefiniteHolds : Type 1
 DefiniteHolds =

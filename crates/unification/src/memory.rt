@@ -30,6 +30,8 @@ pub const NEXT: usize = 1728;
 pub const STEPS: usize = 1984;
 // The answer's number of each variable, and one.
 pub const NUMBERS: usize = 2240;
+// By copy: 1 where the answer has what it says, 0 where an earlier copy says the same or it is no copy of the question.
+pub const KEPT: usize = 2768;
 
 // A reference is a copy's number times 256 and an offset within its clause; a variable is a copy's number times 16 and its number there.
 pub fn position(work: &[u32], reference: u32) -> usize

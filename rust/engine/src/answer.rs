@@ -1,9 +1,11 @@
 //! The answer of a closed tableau.
 
 use crate::equations::{Node, Shape};
-use crate::tableau::Tableau;
+use crate::sameness::Sameness;
+use crate::tableau::{Goal, Tableau};
 use crate::word::{self, Word};
-use std::collections::HashMap;
+use std::collections::{HashMap, HashSet};
+use std::rc::Rc;
 
 pub struct Answer {
     pub disjuncts: usize,
@@ -14,11 +16,23 @@ pub struct Answer {
 /// however large the terms are.
 pub fn answer(tableau: &Tableau, room: usize) -> Option<Answer> {
     let mut writer = Writer { tableau, room, words: Vec::new(), names: HashMap::new() };
-    for goal in tableau.questions().iter().flatten() {
+    let disjuncts = disjuncts(tableau);
+    for goal in disjuncts.iter().flat_map(|goals| goals.iter()) {
         writer.push(Word::Literal { predicate: goal.predicate, negative: false })?;
         writer.terms(&goal.arguments)?;
     }
-    Some(Answer { disjuncts: tableau.questions().len(), words: writer.words })
+    Some(Answer { disjuncts: disjuncts.len(), words: writer.words })
+}
+
+/// The copies of the question, those that are equal in every word at the first place alone.
+fn disjuncts<'a>(tableau: &'a Tableau) -> Vec<&'a [Rc<Goal>]> {
+    let mut sameness = Sameness::of(tableau.terms());
+    let mut met = HashSet::new();
+    let mut first = |goals: &&[Rc<Goal>]| {
+        let terms = goals.iter().flat_map(|goal| &goal.arguments);
+        met.insert(terms.map(|&term| sameness.number(term)).collect::<Vec<usize>>())
+    };
+    tableau.questions().iter().map(Vec::as_slice).filter(&mut first).collect()
 }
 
 struct Writer<'a> {

@@ -10,6 +10,7 @@ pub mod file;
 mod list;
 pub mod owned;
 pub mod report;
+mod sameness;
 mod search;
 pub mod step;
 pub mod syntax;

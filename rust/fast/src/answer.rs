@@ -3,7 +3,7 @@
 use crate::memory::{FOUND_COPIES, LINKS, SEEN, VARIABLES, Work, at, load, store};
 use crate::play::copy_is_of;
 use crate::read::Accepted;
-use crate::terms::{Reference, follow};
+use crate::terms::{Reference, equal, follow};
 use crate::words::{NEGATIVE, arity, following, is_function, is_literal};
 
 pub struct Written {
@@ -14,8 +14,27 @@ pub struct Written {
 /// Writes the answer, if it fits. Nothing is written before it has been counted, up to the buffer's length.
 pub fn write(file: &Accepted, work: &mut Work, buffer: &mut [u32]) -> Option<Written> {
     let room = buffer.len();
-    Walk::over(file, work, room, |_, _| {})?;
-    Walk::over(file, work, room, |place, word| buffer[place] = word)
+    let copies = disjuncts(file, work);
+    Walk::over(file, work, copies, room, |_, _| {})?;
+    Walk::over(file, work, copies, room, |place, word| buffer[place] = word)
+}
+
+/// The copies of the question that the answer names, a bit each: not those that equal an earlier one in every word.
+fn disjuncts(file: &Accepted, work: &mut Work) -> u64 {
+    let mut disjuncts = 0;
+    for copy in 0..load(work, FOUND_COPIES) {
+        if copy_is_of(work, copy, file.question) {
+            let repeated = (0..copy).any(|earlier| disjuncts >> earlier & 1 == 1 && same(file, work, earlier, copy));
+            disjuncts |= u64::from(!repeated) << copy;
+        }
+    }
+    disjuncts
+}
+
+fn same(file: &Accepted, work: &mut Work, one: u32, other: u32) -> bool {
+    let Accepted { body, question } = *file;
+    let mut literals = (question + 1..=question + following(at(body, question))).filter(|&at| is_literal(body[at]));
+    literals.all(|literal| equal(body, work, Reference::new(one, literal), Reference::new(other, literal)))
 }
 
 struct Walk<'a, Emit> {
@@ -29,17 +48,13 @@ struct Walk<'a, Emit> {
 
 impl<'a, Emit: FnMut(usize, u32)> Walk<'a, Emit> {
     /// Gives every word of the answer with its place, unless there are more than the room.
-    fn over(file: &'a Accepted, work: &'a mut Work, room: usize, emit: Emit) -> Option<Written> {
+    fn over(file: &'a Accepted, work: &'a mut Work, copies: u64, room: usize, emit: Emit) -> Option<Written> {
         work[SEEN..][..VARIABLES].fill(0);
         let mut walk = Walk { file, work, room, words: 0, variables: 0, emit };
-        let mut disjuncts = 0;
-        for copy in 0..load(walk.work, FOUND_COPIES) {
-            if copy_is_of(walk.work, copy, file.question) {
-                walk.disjunct(copy)?;
-                disjuncts += 1;
-            }
+        for copy in (0..u64::BITS).filter(|&copy| copies >> copy & 1 == 1) {
+            walk.disjunct(copy)?;
         }
-        Some(Written { disjuncts, words: walk.words })
+        Some(Written { disjuncts: copies.count_ones(), words: walk.words })
     }
 
     fn disjunct(&mut self, copy: u32) -> Option<()> {

@@ -177,7 +177,7 @@ fn enter_application(body: &[u32], work: &mut Work, argument: Term, word: u32, c
         return place + 1;
     }
     let Term { reference, .. } = argument;
-    equal::<false>(body, work, arity(word), copy, place + 1, reference.copy(), reference.place() + 1)
+    pairs::<false>(body, work, arity(word), copy, place + 1, reference.copy(), reference.place() + 1)
 }
 
 /// Makes the arguments of two literals equal, or says what is wrong with the first pair that cannot be.
@@ -199,6 +199,14 @@ pub fn unify(body: &[u32], work: &mut Work, left: Reference, right: Reference) -
     }
 }
 
+/// Whether the arguments of two literals are equal: whether making them so binds nothing.
+pub fn equal(body: &[u32], work: &mut Work, left: Reference, right: Reference) -> bool {
+    let mark = bound_count(work);
+    let equal = unify(body, work, left, right) && bound_count(work) == mark;
+    undo(work, mark);
+    equal
+}
+
 #[cold]
 #[inline(never)]
 fn thoroughly(body: &[u32], work: &mut Work, left: Reference, right: Reference) -> bool {
@@ -214,11 +222,11 @@ fn thoroughly(body: &[u32], work: &mut Work, left: Reference, right: Reference) 
 fn literals<const THOROUGH: bool>(body: &[u32], work: &mut Work, left: Reference, right: Reference) -> bool {
     let count = arity(at(body, left.place()));
     let (left_place, right_place) = (left.place() + 1, right.place() + 1);
-    equal::<THOROUGH>(body, work, count, left.copy(), left_place, right.copy(), right_place) != FAILED
+    pairs::<THOROUGH>(body, work, count, left.copy(), left_place, right.copy(), right_place) != FAILED
 }
 
 /// Makes so many terms equal to as many others, and gives the place after the left ones.
-fn equal<const THOROUGH: bool>(
+fn pairs<const THOROUGH: bool>(
     body: &[u32],
     work: &mut Work,
     mut owed: u32,
@@ -358,7 +366,7 @@ fn inside_applications<const THOROUGH: bool>(
         return false;
     }
     let (left_place, right_place) = (left.place() + 1, right.place() + 1);
-    let equal = equal::<THOROUGH>(body, work, count, left.copy(), left_place, right.copy(), right_place);
+    let equal = pairs::<THOROUGH>(body, work, count, left.copy(), left_place, right.copy(), right_place);
     if THOROUGH && equal != FAILED {
         link(work, left, right);
     }

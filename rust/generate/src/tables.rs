@@ -312,7 +312,7 @@ fn wide(random: &mut Random) -> Asked {
     Asked { table: written(&lines.join("\n")), bound: random.between(1, 6) as u32 }
 }
 
-fn written(text: &str) -> Table {
+pub fn written(text: &str) -> Table {
     notation::table(text).expect("a table written here can be read")
 }
 

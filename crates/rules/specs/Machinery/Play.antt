@@ -13,7 +13,7 @@ use Rattle.rules.specs.Setting.{Setting}
 use Rattle.rules.specs.Machinery.Unify.{Bindings, solution, Unified, made, clash, circle, unify}
 use Rattle.rules.specs.Tableau.{Leaf, Tableau, start, stepped}
 use Rattle.rules.specs.Order.{allClosed, candidates}
-use Rattle.rules.specs.Answer.{answerWords}
+use Rattle.rules.specs.Answer.{disjuncts, answerWords}
 use Rattle.rules.specs.Verdict.{Refusal, malformed, not-allowed, not-unified, leaves-open, CheckVerdict, accepted, refused, SearchVerdict, finds, finds-none, runs-out}
 use Rattle.rules.specs.Machinery.Run.{Program, Result, way, no-way, ran-out, search}
 
@@ -116,5 +116,5 @@ searchFor S budget = reported budget (search (plays S) (suc (stepsLeft S (start 
 unfoldable pub answerOf : Table → Play → List ℕ
 answerOf t p = answerWords (solution (p .bindings)) t (p .tableau)
 
-unfoldable pub disjunctsOf : Play → ℕ
-disjunctsOf p = length (p .tableau .questions)
+unfoldable pub disjunctsOf : Table → Play → ℕ
+disjunctsOf t p = length (disjuncts (solution (p .bindings)) t (p .tableau))

@@ -3,6 +3,7 @@
 mod circles;
 mod desk;
 mod out;
+mod repeats;
 mod slim;
 mod smallest;
 mod tptp;
@@ -13,15 +14,23 @@ use crate::random::Random;
 type Kind = fn(&mut Random, Spelling) -> String;
 
 const KINDS: &[Kind] =
-    &[circles::request, desk::request, out::request, slim::request, smallest::request, tptp::request];
+    &[circles::request, desk::request, out::request, repeats::request, slim::request, smallest::request, tptp::request];
 
 pub fn any(random: &mut Random, spelling: Spelling) -> String {
     random.pick(KINDS)(random, spelling)
 }
 
 pub fn borders() -> Vec<String> {
-    [circles::borders(), desk::borders(), out::borders(), slim::borders(), smallest::borders(), tptp::borders()]
-        .concat()
+    [
+        circles::borders(),
+        desk::borders(),
+        out::borders(),
+        repeats::borders(),
+        slim::borders(),
+        smallest::borders(),
+        tptp::borders(),
+    ]
+    .concat()
 }
 
 /// A length at, just below or just above what is needed, or ample.
