@@ -79,5 +79,20 @@ int main(void)
     wrong |= says("clause text: written, and refused where it lacks a byte of room",
                   short_by_one.status == HUKOLEARU_ANSWER_TOO_LONG && short_by_one.bytes == 0 && empty && written.status == HUKOLEARU_FOUND
                       && written.bytes == bytes && equal && out[bytes] == 0xA5);
+
+    static const char behind[] = "0 1 cnf(c0,axiom,(p1(f1,f2) | p1(f1,f3))).\n1 2 cnf(c1,negated_conjecture,(~ p1(f1,X0))).\n";
+    static uint8_t listing[100];
+    const size_t behind_bytes = sizeof behind - 1;
+    listing[behind_bytes] = 0xA5;
+    struct hukolearu_text_written open_leaf = hukolearu_listing(file, 15, 2, steps, 1, listing, sizeof listing, work, 16384);
+    struct hukolearu_text_written too_short = hukolearu_listing(file, 15, 2, steps, 2, listing, behind_bytes - 1, work, 16384);
+    int unlisted = listing[0] == 0 && listing[behind_bytes - 2] == 0;
+    struct hukolearu_text_written listed = hukolearu_listing(file, 15, 2, steps, 2, listing, sizeof listing, work, 16384);
+    int alike = 1;
+    for (size_t i = 0; i < behind_bytes; i++)
+        alike &= listing[i] == (uint8_t)behind[i];
+    wrong |= says("listing: the clauses behind a proof, and refused where a leaf is open or a byte of room lacks",
+                  open_leaf.status == HUKOLEARU_LEAVES_OPEN && open_leaf.place == 1 && too_short.status == HUKOLEARU_ANSWER_TOO_LONG
+                      && unlisted && listed.status == HUKOLEARU_FOUND && listed.bytes == behind_bytes && alike && listing[behind_bytes] == 0xA5);
     return wrong;
 }

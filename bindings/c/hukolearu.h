@@ -119,4 +119,11 @@ struct hukolearu_text_written {
 
 struct hukolearu_text_written hukolearu_write(const uint32_t *file, size_t file_words, uint8_t *text, size_t text_bytes);
 
+/* Order 7: the clauses behind an accepted proof, the question and each clause that a step copies, ascending, each once: a line with the clause's
+ * number, the number of its copies (for the question the start counts) and the clause as above. On 0 the listing stands at the front of its buffer,
+ * later bytes unchanged; a refusal, the checker's or 16 where the listing does not fit, leaves it unchanged. No answer is written. The work words
+ * end as after a check. */
+struct hukolearu_text_written hukolearu_listing(const uint32_t *file, size_t file_words, uint32_t bound, const uint32_t *offered, size_t offered_words,
+                                                uint8_t *listing, size_t listing_bytes, uint32_t *work, size_t work_words);
+
 #endif

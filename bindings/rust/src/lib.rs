@@ -50,7 +50,7 @@ pub struct TextRead {
     pub words: u32,
 }
 
-/// The text of a file (order 2), and its bytes.
+/// A text written, of a file (order 2) or of the clauses behind a proof (order 7), and its bytes.
 #[repr(C)]
 #[derive(Clone, Copy, Debug, PartialEq, Eq)]
 pub struct TextWritten {
@@ -88,6 +88,11 @@ mod archive {
         ) -> Least;
         pub fn hukolearu_read(text: *const u8, text_bytes: usize, file: *mut u32, file_words: usize) -> TextRead;
         pub fn hukolearu_write(file: *const u32, file_words: usize, text: *mut u8, text_bytes: usize) -> TextWritten;
+        #[allow(clippy::too_many_arguments)]
+        pub fn hukolearu_listing(
+            file: *const u32, file_words: usize, bound: u32, offered: *const u32, offered_words: usize,
+            listing: *mut u8, listing_bytes: usize, work: *mut u32, work_words: usize,
+        ) -> TextWritten;
     }
 }
 
@@ -152,6 +157,17 @@ pub fn read(text: &[u8], file: &mut [u32]) -> TextRead {
 pub fn write(file: &[u32], text: &mut [u8]) -> TextWritten {
     // SAFETY: as for `search`.
     unsafe { archive::hukolearu_write(file.as_ptr(), file.len(), text.as_mut_ptr(), text.len()) }
+}
+
+/// Lists the clauses behind an accepted proof, each with the number of its copies.
+pub fn listing(file: &[u32], bound: u32, offered: &[u32], listing: &mut [u8], work: &mut [u32]) -> TextWritten {
+    // SAFETY: as for `search`.
+    unsafe {
+        archive::hukolearu_listing(
+            file.as_ptr(), file.len(), bound, offered.as_ptr(), offered.len(),
+            listing.as_mut_ptr(), listing.len(), work.as_mut_ptr(), work.len(),
+        )
+    }
 }
 
 #[cfg(test)]
@@ -250,6 +266,18 @@ mod tests {
         assert_eq!(write(&CASE_1[..14], &mut text), TextWritten { status: 5, place: 0, bytes: 0 });
         assert_eq!(text, [9; 100]);
         assert_eq!(write(&CASE_1, &mut text), TextWritten { status: 0, place: 0, bytes: n as u32 });
+        assert_eq!((&text[..n], text[n]), (&lines[..], 9));
+    }
+
+    #[test]
+    fn the_clauses_behind_a_proof_are_listed_or_nothing_is() {
+        let lines = b"0 1 cnf(c0,axiom,(p1(f1,f2) | p1(f1,f3))).\n1 2 cnf(c1,negated_conjecture,(~ p1(f1,X0))).\n";
+        let steps = [0x4000_0000, 0x4000_0001];
+        let (n, mut text, mut work) = (lines.len(), [9; 100], vec![9; WORK_WORDS]);
+        assert_eq!(listing(&CASE_1, 2, &steps, &mut text[..n - 1], &mut work), TextWritten { status: 16, place: 0, bytes: 0 });
+        assert_eq!(listing(&CASE_1, 2, &steps[..1], &mut text, &mut work), TextWritten { status: 15, place: 1, bytes: 0 });
+        assert_eq!((text, work.iter().all(|w| *w == 0)), ([9; 100], true));
+        assert_eq!(listing(&CASE_1, 2, &steps, &mut text, &mut work), TextWritten { status: 0, place: 0, bytes: n as u32 });
         assert_eq!((&text[..n], text[n]), (&lines[..], 9));
     }
 

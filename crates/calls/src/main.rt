@@ -342,6 +342,36 @@ fn answer_written(line: &[u8], values: &[usize]) {
     lend_text(part::front(&space, n), request::place(values, 0));
 }
 
+fn list_clauses(file: &[u32], bound: u32, offered: &[u32], listing: &mut [u8], work: &mut [u32]) {
+    let w = listing::call::listing(file, bound, offered, listing, work);
+    let mut out = line_buffer();
+    let n = textual::listed_text(&mut out, 0, w.status, w.place, w.bytes, listing, work);
+    write_line(&out, n);
+}
+
+// Lends the bytes for the listing and the work words that are asked for.
+fn lend_listing(file: &[u32], bound: u32, offered: &[u32], bytes: usize, works: usize) {
+    let mut listing = filled_text();
+    let mut work = long_buffer();
+    let b = least(bytes, 131072);
+    let w = least(works, 20000);
+    list_clauses(file, bound, offered, &mut listing[..b], &mut work[..w]);
+}
+
+fn answer_listing(line: &[u8], values: &[usize]) {
+    let mut space = file_buffer();
+    let n = piece::gather(line, request::place(values, 4), &mut space);
+    let mut proof = proof_buffer();
+    let m = piece::gather(line, request::place(values, 3), &mut proof);
+    lend_listing(
+        part::front(&space, n),
+        request::word(values, 0),
+        part::front(&proof, m),
+        request::place(values, 2),
+        request::place(values, 1),
+    );
+}
+
 // Room for the values of the longest row.
 fn value_buffer() -> [usize; 8]
     ensures { λ r. ⌜ 8 ≡ length r ⌝ }
@@ -405,6 +435,16 @@ fn answer_request(line: &[u8]) {
     }
     if request::asks(line, b"tptp-out", b"nw", &[TEXT, FILE], &mut values) {
         answer_written(line, &values);
+        return;
+    }
+    if request::asks(
+        line,
+        b"listing",
+        b"nnnww",
+        &[ANY, LONG, TEXT, OFFERED, FILE],
+        &mut values,
+    ) {
+        answer_listing(line, &values);
         return;
     }
     io::write_all(STDOUT_FILENO, b"error\n");

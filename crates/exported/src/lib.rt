@@ -15,6 +15,7 @@ ghost use Rattle.desk.specs.Desk.{deskSays, valuesOf};
 ghost use Rattle.smallest.specs.Smallest.{smallestCall};
 ghost use Rattle.tptp.specs.Reads.{Reads};
 ghost use Rattle.clauselines.specs.Call.{writeCall};
+ghost use Rattle.listing.specs.Call.{listingCall, listingWith};
 
 #[no_mangle]
 pub extern "C" fn hukolearu_search(
@@ -102,4 +103,19 @@ pub extern "C" fn hukolearu_write(file: &[u32], text: &mut [u8]) -> TextWritten
     ensures { λ _. ⌜ now (text .exit) ≡ atFront (writeCall (now (file .entry)) (length (now (text .entry))) .text) (now (text .entry)) ⌝ }
 {
     clauselines::call::write(file, text)
+}
+
+#[no_mangle]
+pub extern "C" fn hukolearu_listing(
+    file: &[u32],
+    bound: u32,
+    offered: &[u32],
+    listing: &mut [u8],
+    work: &mut [u32],
+) -> TextWritten
+    ensures { λ r. ⌜ r ≡ listingCall (listingWith (now (file .entry)) bound (now (offered .entry)) (now (listing .entry)) (now (work .entry))) .outcome ⌝ }
+    ensures { λ _. ⌜ now (listing .exit) ≡ atFront (listingCall (listingWith (now (file .entry)) bound (now (offered .entry)) (now (listing .entry)) (now (work .entry))) .text) (now (listing .entry)) ⌝ }
+    ensures { λ _. ⌜ now (work .exit) ≡ workAfter (now (work .entry)) ⌝ }
+{
+    listing::call::listing(file, bound, offered, listing, work)
 }

@@ -7,7 +7,7 @@ use lib.ListN.{length, take, drop, getD, drop-of-length-le}
 use borrow.Author.Tests.{eq-eqb, ne-eqb, lt-ltb, le-ltb}
 use Rattle.text.proofs.Parts.{part-from, part-length}
 use Rattle.text.proofs.Written.{from-place}
-use Rattle.results.specs.Buffers.{allAre, bothUntouched, workKept, kept}
+use Rattle.results.specs.Buffers.{allAre, bothUntouched, workKept, textKept, kept}
 
 -- all words the same
 module _ (value : ℕ) (ws : List ℕ) where
@@ -62,6 +62,18 @@ module _ (status : ℕ) (work : List ℕ) where
             (rw (part-from 16384 work) at er)
 
 pub ruleset work-laws = (kept-whole, kept-short, part-length, kept-not, kept-rest)
+
+-- a text and the work words
+module _ (status : ℕ) (text work : List ℕ) {w : Bool} (ew : w ≡ workKept status work) where
+  pub text-work-not : w ≡ false → false ≡ textKept status text work
+  unfolding textKept
+  text-work-not f = rw (sym ew ∙ f)
+
+  pub text-left : w ≡ true → {r : Bool} → r ≡ allAre 0xA5 text → r ≡ textKept status text work
+  unfolding textKept
+  text-left t er = rw (sym ew ∙ t) er
+
+pub ruleset text-laws = (text-work-not, text-left)
 
 -- the three buffers
 module _ (status : ℕ) (proof answer work : List ℕ) {w : Bool} (ew : w ≡ workKept status work) where

@@ -10,8 +10,8 @@ use Rattle.text.specs.Put.{Put}
 use Rattle.text.specs.Digits.{decimalText, wordsText, bytesText}
 use Rattle.text.proofs.Putting.{then}
 use Rattle.hukolearu.specs.declared.Outcome.{Outcome}
-use Rattle.results.specs.Buffers.{allAre, bothUntouched, kept}
-use Rattle.results.specs.Results.{barredText, barredBytesText, verdictText, firstNumbersText, lastNumbersText, listsText, outcomeText, leastText, foundText, clauseText, countedText, slimmedText, slotsText, deskText, readText, writtenText}
+use Rattle.results.specs.Buffers.{allAre, bothUntouched, textKept, kept}
+use Rattle.results.specs.Results.{barredText, barredBytesText, verdictText, firstNumbersText, lastNumbersText, listsText, outcomeText, leastText, foundText, clauseText, countedText, slimmedText, slotsText, deskText, readText, writtenText, listedText}
 
 module _ {out a : List ℕ} {at n : ℕ} where
   pub barred-is : (ws : List ℕ) → Put out at (bytes " / ") a n → {b : List ℕ} {m : ℕ} → Put a n (wordsText ws) b m → Put out at (barredText ws) b m
@@ -124,4 +124,11 @@ module _ {out a : List ℕ} {at n : ℕ} where
   unfolding writtenText
   written-is status place count text p el ff fr ei q r = then (then p (rw (ff, el) at q)) (rw (ei, fr, el) at r)
 
-pub ruleset line-laws = (counted-is, written-is, slimmed-is, read-is, slots-are, desk-is, barred-is, barred-bytes-are, verdict-good, verdict-bad, lists-are, first-are, last-are, outcome-is, least-is, found-is, clause-none, clause-some)
+  pub listed-is : (status place count : ℕ) (text work : List ℕ) → Put out at (countedText status place (bytes " bytes ") count) a n → {long : ℕ} → long ≡ count
+      → {front rest : List ℕ} → front ≡ take long text → rest ≡ drop long text → {intact : Bool} → intact ≡ textKept status rest work
+      → {b : List ℕ} {m : ℕ} → Put a n (barredBytesText front) b m → {c : List ℕ} {k : ℕ} → Put b m (verdictText intact) c k
+      → Put out at (listedText status place count text work) c k
+  unfolding listedText
+  listed-is status place count text work p el ff fr ei q r = then (then p (rw (ff, el) at q)) (rw (ei, fr, el) at r)
+
+pub ruleset line-laws = (counted-is, written-is, listed-is, slimmed-is, read-is, slots-are, desk-is, barred-is, barred-bytes-are, verdict-good, verdict-bad, lists-are, first-are, last-are, outcome-is, least-is, found-is, clause-none, clause-some)

@@ -18,6 +18,10 @@ workKept status work =
     cond (eqb status 1) (allAre 0xA5A5A5A5 work)
     (cond (ltb (length work) 16384) false (allAre 0 (take 16384 work) && allAre 0xA5A5A5A5 (drop 16384 work)))
 
+-- so are they, and the bytes after a text are unchanged
+unfoldable pub textKept : ℕ → List ℕ → List ℕ → Bool
+textKept status text work = workKept status work && allAre 0xA5 text
+
 -- so are they, and the words after the proof and after the answer are unchanged
 unfoldable pub kept : ℕ → List ℕ → List ℕ → List ℕ → Bool
 kept status proof answer work = workKept status work && allAre 0xA5A5A5A5 proof && allAre 0xA5A5A5A5 answer

@@ -6,7 +6,7 @@ use lib.ListN.{length, take, drop}
 use Rattle.text.specs.Quoted.{bytes}
 use Rattle.text.specs.Digits.{decimalText, wordsText, bytesText}
 use Rattle.hukolearu.specs.declared.Outcome.{Outcome}
-use Rattle.results.specs.Buffers.{allAre, bothUntouched, kept}
+use Rattle.results.specs.Buffers.{allAre, bothUntouched, textKept, kept}
 
 -- a list after a bar
 unfoldable pub barredText : List ℕ → List ℕ
@@ -79,3 +79,8 @@ readText status place words file =
 unfoldable pub writtenText : ℕ → ℕ → ℕ → List ℕ → List ℕ
 writtenText status place count text =
     countedText status place (bytes " bytes ") count ++ barredBytesText (take count text) ++ verdictText (allAre 0xA5 (drop count text))
+
+-- a listing: the same, and the work words are looked at too
+unfoldable pub listedText : ℕ → ℕ → ℕ → List ℕ → List ℕ → List ℕ
+listedText status place count text work =
+    countedText status place (bytes " bytes ") count ++ barredBytesText (take count text) ++ verdictText (textKept status (drop count text) work)

@@ -1,6 +1,6 @@
 // What is looked for in the lent buffers, which are filled before every call.
 ghost use mathlib.Core.Path.{_≡_};
-ghost use Rattle.results.specs.Buffers.{allAre, bothUntouched, workKept, kept};
+ghost use Rattle.results.specs.Buffers.{allAre, bothUntouched, workKept, textKept, kept};
 
 fn all(list: &[u32], value: u32) -> bool
     ensures { λ r. ⌜ r ≡ allAre value (now (list .entry)) ⌝ }
@@ -57,6 +57,16 @@ fn work_kept(status: u32, work: &[u32]) -> bool
     }
     if all(&work[..16384], 0) {
         return untouched(&work[16384..]);
+    }
+    false
+}
+
+// So are they, and the bytes after a text are unchanged.
+pub fn text_kept(status: u32, text: &[u8], work: &[u32]) -> bool
+    ensures { λ r. ⌜ r ≡ textKept status (now (text .entry)) (now (work .entry)) ⌝ }
+{
+    if work_kept(status, work) {
+        return untouched_bytes(text);
     }
     false
 }

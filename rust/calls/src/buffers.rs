@@ -36,7 +36,7 @@ impl Buffers {
         )
     }
 
-    fn work_as_promised(&self, status: Status) -> bool {
+    pub fn work_as_promised(&self, status: Status) -> bool {
         if status == Status::WorkTooShort {
             return untouched(&self.work);
         }

@@ -4,6 +4,7 @@ mod base;
 mod buffers;
 mod desk;
 mod line;
+mod listing;
 mod slim;
 mod smallest;
 mod tptp;
@@ -74,6 +75,7 @@ fn perform(engine: &mut impl Engine, line: &Line) -> Option<String> {
         "search" => base::search(engine, line),
         "check" => base::check(engine, line),
         "desk" => desk::respond(line),
+        "listing" => listing::respond(line),
         "slim" => slim::respond(line),
         "smallest" => smallest::respond(engine, line),
         "tptp-in" => tptp::respond_in(line),

@@ -2,6 +2,7 @@
 
 mod circles;
 mod desk;
+mod listing;
 mod out;
 mod repeats;
 mod slim;
@@ -13,8 +14,16 @@ use crate::random::Random;
 
 type Kind = fn(&mut Random, Spelling) -> String;
 
-const KINDS: &[Kind] =
-    &[circles::request, desk::request, out::request, repeats::request, slim::request, smallest::request, tptp::request];
+const KINDS: &[Kind] = &[
+    circles::request,
+    desk::request,
+    listing::request,
+    out::request,
+    repeats::request,
+    slim::request,
+    smallest::request,
+    tptp::request,
+];
 
 pub fn any(random: &mut Random, spelling: Spelling) -> String {
     random.pick(KINDS)(random, spelling)
@@ -24,6 +33,7 @@ pub fn borders() -> Vec<String> {
     [
         circles::borders(),
         desk::borders(),
+        listing::borders(),
         out::borders(),
         repeats::borders(),
         slim::borders(),

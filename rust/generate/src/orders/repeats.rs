@@ -12,10 +12,10 @@ use engine::syntax::Table;
 const ALLOWED: u32 = 1_000;
 
 /// A closed proof with its table, and how many copies of the question its answer does not name.
-struct Closed {
-    file: Vec<u32>,
-    proof: Vec<u32>,
-    bound: u32,
+pub struct Closed {
+    pub file: Vec<u32>,
+    pub proof: Vec<u32>,
+    pub bound: u32,
     words: usize,
     repeats: usize,
 }
@@ -33,7 +33,7 @@ pub fn request(random: &mut Random, spelling: Spelling) -> String {
     Check { answer, ..Check::ordinary(&file, &proof, bound) }.line(spelling)
 }
 
-fn closed(random: &mut Random) -> Closed {
+pub fn closed(random: &mut Random) -> Closed {
     let family = random.pick(&[alternatives, alternatives, with_a_second_goal, doubling, tables::any]);
     let Asked { table, bound } = family(random);
     let file = write(&table);

@@ -1,0 +1,9 @@
+pub mod Copies
+pub mod Checked
+pub mod Listing
+pub mod Counts
+pub mod Writing
+pub mod Telling
+pub mod Rooms
+pub mod Promises
+pub mod Cases

@@ -1,0 +1,6 @@
+pub mod Behind
+pub mod Lines
+pub mod Call
+pub mod Promises
+pub mod Counting
+pub mod ListingCases
