@@ -2,7 +2,7 @@
 """Lines that try how the program `calls` reads: `lines.py requests` prints requests, `lines.py results` what the protocol says to them."""
 import sys
 
-BUFFER = 270000  # bytes that `calls` has room for, its line feed not counted
+BUFFER = 450000  # bytes that `calls` has room for, its line feed not counted
 NOT_THERE = "start - length 0 / -\n"
 LOOKUP = "lookup {} / -"
 

@@ -94,5 +94,11 @@ int main(void)
     wrong |= says("listing: the clauses behind a proof, and refused where a leaf is open or a byte of room lacks",
                   open_leaf.status == HUKOLEARU_LEAVES_OPEN && open_leaf.place == 1 && too_short.status == HUKOLEARU_ANSWER_TOO_LONG
                       && unlisted && listed.status == HUKOLEARU_FOUND && listed.bytes == behind_bytes && alike && listing[behind_bytes] == 0xA5);
+
+    static const uint32_t entries[12] = {0, 4, 2, 3, 0, 4, 1, 9, 1, 4, 2, 3};
+    struct hukolearu_season season = hukolearu_season(file, 15, entries, 12, file + 7, 4, proof, 199, answer, 64, work, 16384);
+    wrong |= says("season: one found, one none, one past the list, 3 + 4 tries",
+                  season.status == HUKOLEARU_FOUND && season.definite == 0 && season.indefinite == 1 && season.none == 1 && season.ran_out == 0
+                      && season.too_long == 0 && season.refused == 1 && season.tries == 7 && same(answer, words, 6));
     return wrong;
 }

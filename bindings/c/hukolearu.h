@@ -47,6 +47,7 @@ enum hukolearu_status {
     HUKOLEARU_QUESTIONS = 18,
     HUKOLEARU_OVER_A_LIMIT = 19,
     HUKOLEARU_CIRCLE = 20,
+    HUKOLEARU_ENTRIES = 23,
     HUKOLEARU_OUT_OF_RANGE = 24
 };
 
@@ -125,5 +126,25 @@ struct hukolearu_text_written hukolearu_write(const uint32_t *file, size_t file_
  * end as after a check. */
 struct hukolearu_text_written hukolearu_listing(const uint32_t *file, size_t file_words, uint32_t bound, const uint32_t *offered, size_t offered_words,
                                                 uint8_t *listing, size_t listing_bytes, uint32_t *work, size_t work_words);
+
+/* Order 13: the season report, many questions put to one table. Four words an entry: the place and length of a question's words in the list,
+ * a bound and a budget. Each question takes the place of the table's own; a bad one, or one that points past the list, counts as refused.
+ * The buffers end as the single searches in turn leave them. 1, 2, the table's own (4 to 9), then 23: more than 4,096 entries, or words left
+ * over; the numbers are then 0. Stack: 70 KB more. */
+struct hukolearu_season {
+    uint32_t status;
+    uint32_t place;
+    uint32_t definite;   /* found, one disjunct */
+    uint32_t indefinite; /* found, more than one */
+    uint32_t none;
+    uint32_t ran_out;
+    uint32_t too_long;   /* found, its answer longer than the buffer */
+    uint32_t refused;
+    uint64_t tries;
+};
+
+struct hukolearu_season hukolearu_season(const uint32_t *table, size_t table_words, const uint32_t *entries, size_t entries_words,
+                                         const uint32_t *list, size_t list_words, uint32_t *proof, size_t proof_words,
+                                         uint32_t *answer, size_t answer_words, uint32_t *work, size_t work_words);
 
 #endif

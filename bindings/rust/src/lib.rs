@@ -59,11 +59,26 @@ pub struct TextWritten {
     pub bytes: u32,
 }
 
+/// A season report (order 13): how many questions came to each result, and the sum of their tries.
+#[repr(C)]
+#[derive(Clone, Copy, Debug, Default, PartialEq, Eq)]
+pub struct Season {
+    pub status: u32,
+    pub place: u32,
+    pub definite: u32,
+    pub indefinite: u32,
+    pub none: u32,
+    pub ran_out: u32,
+    pub too_long: u32,
+    pub refused: u32,
+    pub tries: u64,
+}
+
 pub const WORK_WORDS: usize = 16_384;
 pub const PROOF_WORDS: usize = 199;
 
 mod archive {
-    use super::{Desk, Least, Outcome, Slimmed, TextRead, TextWritten};
+    use super::{Desk, Least, Outcome, Season, Slimmed, TextRead, TextWritten};
 
     extern "C" {
         #[allow(clippy::too_many_arguments)]
@@ -93,6 +108,11 @@ mod archive {
             file: *const u32, file_words: usize, bound: u32, offered: *const u32, offered_words: usize,
             listing: *mut u8, listing_bytes: usize, work: *mut u32, work_words: usize,
         ) -> TextWritten;
+        #[allow(clippy::too_many_arguments)]
+        pub fn hukolearu_season(
+            table: *const u32, table_words: usize, entries: *const u32, entries_words: usize, list: *const u32, list_words: usize,
+            proof: *mut u32, proof_words: usize, answer: *mut u32, answer_words: usize, work: *mut u32, work_words: usize,
+        ) -> Season;
     }
 }
 
@@ -166,6 +186,18 @@ pub fn listing(file: &[u32], bound: u32, offered: &[u32], listing: &mut [u8], wo
         archive::hukolearu_listing(
             file.as_ptr(), file.len(), bound, offered.as_ptr(), offered.len(),
             listing.as_mut_ptr(), listing.len(), work.as_mut_ptr(), work.len(),
+        )
+    }
+}
+
+/// Puts many questions to one table, each in the place of its own. Four words an entry: the place and length of a question's words in
+/// the list, a bound and a budget.
+pub fn season(table: &[u32], entries: &[u32], list: &[u32], proof: &mut [u32], answer: &mut [u32], work: &mut [u32]) -> Season {
+    // SAFETY: as for `search`.
+    unsafe {
+        archive::hukolearu_season(
+            table.as_ptr(), table.len(), entries.as_ptr(), entries.len(), list.as_ptr(), list.len(),
+            proof.as_mut_ptr(), proof.len(), answer.as_mut_ptr(), answer.len(), work.as_mut_ptr(), work.len(),
         )
     }
 }
@@ -279,6 +311,25 @@ mod tests {
         assert_eq!((text, work.iter().all(|w| *w == 0)), ([9; 100], true));
         assert_eq!(listing(&CASE_1, 2, &steps, &mut text, &mut work), TextWritten { status: 0, place: 0, bytes: n as u32 });
         assert_eq!((&text[..n], text[n]), (&lines[..], 9));
+    }
+
+    #[test]
+    fn a_season_counts_each_question_once() {
+        let (mut proof, mut answer, mut work) = ([9; PROOF_WORDS], [9; 7], vec![9; WORK_WORDS + 1]);
+        let question = [0xC0000309, 0x8000A001, 0x40000001, 0x00000000];
+        // case 1, case 2, case 4, a bound over 32, past the list, no words
+        let entries = [0, 4, 2, 3, 0, 4, 1, 9, 0, 4, 2, 2, 0, 4, 33, 9, 1, 4, 2, 3, 0, 0, 2, 3];
+        let report = season(&CASE_1, &entries, &question, &mut proof, &mut answer, &mut work);
+        assert_eq!(report, Season { indefinite: 1, none: 1, ran_out: 1, refused: 3, tries: 3 + 4 + 2, ..Season::default() });
+        assert_eq!((proof[..3].to_vec(), answer[5..].to_vec()), (vec![0x40000000, 0x40000001, 9], vec![0x40000003, 9]));
+        assert!(work[..WORK_WORDS].iter().all(|&word| word == 0) && work[WORK_WORDS] == 9);
+        let longer = season(&CASE_1, &entries[..4], &question, &mut proof, &mut answer[..5], &mut work);
+        assert_eq!(longer, Season { too_long: 1, tries: 3, ..Season::default() });
+        assert_eq!(season(&CASE_1, &entries[..3], &question, &mut proof, &mut answer, &mut work).status, 23);
+        assert_eq!(season(&CASE_1, &vec![0; 4 * 4097], &question, &mut proof, &mut answer, &mut work).status, 23);
+        work[7] = 9;
+        assert_eq!(season(&CASE_1, &[], &question, &mut proof, &mut answer, &mut work), Season::default());
+        assert_eq!(work[7], 0);
     }
 
     #[test]

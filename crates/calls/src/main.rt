@@ -12,6 +12,7 @@ use requests::piece;
 use requests::records;
 use requests::request;
 use results::clause;
+use results::counts;
 use results::desk as said;
 use results::least;
 use results::outcome;
@@ -38,6 +39,8 @@ const RECORDS: u32 = 600;
 
 const TEXT: u32 = 131072;
 
+const ENTRIES: u32 = 16400;
+
 fn least(a: usize, b: usize) -> usize
     ensures { λ r. ⌜ r ≡ min a b ⌝ }
 {
@@ -52,10 +55,10 @@ fn write_line(out: &[u8], n: usize) {
 }
 
 // Room for the longest line, read or written.
-fn line_buffer() -> [u8; 270000]
-    ensures { λ r. ⌜ 270000 ≡ length r ⌝ }
+fn line_buffer() -> [u8; 450000]
+    ensures { λ r. ⌜ 450000 ≡ length r ⌝ }
 {
-    [0; 270000]
+    [0; 450000]
 }
 
 fn report(o: Outcome, steps: usize, proof: &[u32], answer: &[u32], work: &[u32]) {
@@ -372,6 +375,68 @@ fn answer_listing(line: &[u8], values: &[usize]) {
     );
 }
 
+fn report_season(
+    table: &[u32],
+    entries: &[u32],
+    list: &[u32],
+    proof: &mut [u32],
+    answer: &mut [u32],
+    work: &mut [u32],
+) {
+    let r = season::season(table, entries, list, proof, answer, work);
+    let mut out = line_buffer();
+    let n = counts::season(&mut out, 0, r, proof, answer, work);
+    write_line(&out, n);
+}
+
+// Lends the proof, answer and work words that are asked for.
+fn lend_season(
+    table: &[u32],
+    entries: &[u32],
+    list: &[u32],
+    proofs: usize,
+    answers: usize,
+    works: usize,
+) {
+    let mut proof = short_buffer();
+    let mut answer = long_buffer();
+    let mut work = long_buffer();
+    let p = least(proofs, 300);
+    let a = least(answers, 20000);
+    let w = least(works, 20000);
+    report_season(
+        table,
+        entries,
+        list,
+        &mut proof[..p],
+        &mut answer[..a],
+        &mut work[..w],
+    );
+}
+
+fn entry_buffer() -> [u32; 16400]
+    ensures { λ r. ⌜ 16400 ≡ length r ⌝ }
+{
+    [0; 16400]
+}
+
+fn answer_season(line: &[u8], values: &[usize]) {
+    let mut space = file_buffer();
+    let n = piece::gather(line, request::place(values, 5), &mut space);
+    let mut entries = entry_buffer();
+    let m = piece::gather(line, request::place(values, 3), &mut entries);
+    let mut list = file_buffer();
+    let l = piece::gather(line, request::place(values, 4), &mut list);
+    lend_season(
+        part::front(&space, n),
+        part::front(&entries, m),
+        part::front(&list, l),
+        request::place(values, 1),
+        request::place(values, 2),
+        request::place(values, 0),
+    );
+}
+
 // Room for the values of the longest row.
 fn value_buffer() -> [usize; 8]
     ensures { λ r. ⌜ 8 ≡ length r ⌝ }
@@ -427,6 +492,16 @@ fn answer_request(line: &[u8]) {
         &mut values,
     ) {
         answer_desk(line, &values);
+        return;
+    }
+    if request::asks(
+        line,
+        b"season",
+        b"nnnwww",
+        &[LONG, PROOF, LONG, ENTRIES, FILE, FILE],
+        &mut values,
+    ) {
+        answer_season(line, &values);
         return;
     }
     if request::asks(line, b"tptp-in", b"nb", &[FILE, TEXT], &mut values) {

@@ -3,6 +3,7 @@ use clauselines::TextWritten;
 use desk::DeskValues;
 use hukolearu::Outcome;
 use hukolearu::calls;
+use season::Report;
 use slim::Slimmed;
 use smallest::Least;
 use tptp::TextRead;
@@ -10,6 +11,7 @@ ghost use mathlib.Core.Path.{_≡_};
 ghost use lib.ListN.{length};
 ghost use Rattle.hukolearu.specs.Door.{workAfter};
 ghost use Rattle.hukolearu.specs.Calls.{searchCall, searchWith, checkCall, checkWith, atFront};
+ghost use Rattle.season.specs.Season.{seasonWith, reportOf, proofAfter, answerAfter, workLeft};
 ghost use Rattle.slim.specs.Call.{slimCall};
 ghost use Rattle.desk.specs.Desk.{deskSays, valuesOf};
 ghost use Rattle.smallest.specs.Smallest.{smallestCall};
@@ -118,4 +120,21 @@ pub extern "C" fn hukolearu_listing(
     ensures { λ _. ⌜ now (work .exit) ≡ workAfter (now (work .entry)) ⌝ }
 {
     listing::call::listing(file, bound, offered, listing, work)
+}
+
+#[no_mangle]
+pub extern "C" fn hukolearu_season(
+    table: &[u32],
+    entries: &[u32],
+    list: &[u32],
+    proof: &mut [u32],
+    answer: &mut [u32],
+    work: &mut [u32],
+) -> Report
+    ensures { λ r. ⌜ r ≡ reportOf (seasonWith (now (table .entry)) (now (entries .entry)) (now (list .entry)) (now (proof .entry)) (now (answer .entry)) (now (work .entry))) ⌝ }
+    ensures { λ _. ⌜ now (proof .exit) ≡ proofAfter (seasonWith (now (table .entry)) (now (entries .entry)) (now (list .entry)) (now (proof .entry)) (now (answer .entry)) (now (work .entry))) (now (proof .entry)) ⌝ }
+    ensures { λ _. ⌜ now (answer .exit) ≡ answerAfter (seasonWith (now (table .entry)) (now (entries .entry)) (now (list .entry)) (now (proof .entry)) (now (answer .entry)) (now (work .entry))) (now (answer .entry)) ⌝ }
+    ensures { λ _. ⌜ now (work .exit) ≡ workLeft (seasonWith (now (table .entry)) (now (entries .entry)) (now (list .entry)) (now (proof .entry)) (now (answer .entry)) (now (work .entry))) (now (work .entry)) ⌝ }
+{
+    season::season(table, entries, list, proof, answer, work)
 }

@@ -2,12 +2,14 @@
 use mathlib.Core.Path.{_≡_, refl, sym, ap, _∙_}
 use mathlib.Core.Bool.{Bool, true, false, cond, _&&_}
 use mathlib.Core.List.{List, [], _∷_}
-use Prim.Native.Nat.{ℕ, _+_, _-_, _≤_, _<_}
+use Prim.Native.Nat.{ℕ, zero, suc, _+_, _-_, _≤_, _<_}
+use native.Mathlib.Omega.{arith}
+use lib.Dec.{eqb}
 use lib.ListN.{length, take, drop, getD, drop-of-length-le}
 use borrow.Author.Tests.{eq-eqb, ne-eqb, lt-ltb, le-ltb}
 use Rattle.text.proofs.Parts.{part-from, part-length}
 use Rattle.text.proofs.Written.{from-place}
-use Rattle.results.specs.Buffers.{allAre, bothUntouched, workKept, textKept, kept}
+use Rattle.results.specs.Buffers.{allAre, bothUntouched, workKept, textKept, kept, written}
 
 -- all words the same
 module _ (value : ℕ) (ws : List ℕ) where
@@ -91,3 +93,49 @@ module _ (status : ℕ) (proof answer work : List ℕ) {w : Bool} (ew : w ≡ wo
     answer-left u er = rw (sym ew ∙ t, sym ep ∙ u) er
 
 pub ruleset kept-laws = (work-not, proof-not, answer-left)
+
+-- how many words were written
+untouched-none : (ws : List ℕ) → allAre 0xA5A5A5A5 ws ≡ true → written ws ≡ 0
+unfolding written
+untouched-none [] e = refl
+untouched-none (w ∷ ws) e = rw e
+
+touched : (ws : List ℕ) (n : ℕ) → n < length ws → (getD ws n 0 ≡ 0xA5A5A5A5 → ⊥) → allAre 0xA5A5A5A5 ws ≡ false
+unfolding allAre
+touched [] n h d = absurd (omega arith)
+touched (w ∷ ws) zero h d = rw (ne-eqb w 0xA5A5A5A5 d)
+touched (w ∷ ws) (suc n) h d = rw (touched ws n (omega arith) d) (no-both (eqb w 0xA5A5A5A5))
+  where
+    no-both : (b : Bool) → (b && false) ≡ false
+    no-both true = refl
+    no-both false = refl
+
+written-to : (ws : List ℕ) (n : ℕ) → n < length ws → (getD ws n 0 ≡ 0xA5A5A5A5 → ⊥) → allAre 0xA5A5A5A5 (drop (suc n) ws) ≡ true → written ws ≡ suc n
+unfolding written
+written-to [] n h d e = absurd (omega arith)
+written-to (w ∷ ws) zero h d e = rw (touched (w ∷ ws) 0 h d, untouched-none ws e)
+written-to (w ∷ ws) (suc n) h d e = rw (touched (w ∷ ws) (suc n) h d, written-to ws n (omega arith) d e) (omega arith)
+
+module _ (ws : List ℕ) where
+  pub written-begin : allAre 0xA5A5A5A5 (drop (length ws) ws) ≡ true
+  unfolding allAre
+  written-begin = let l : length ws ≤ length ws = omega arith in rw (drop-of-length-le ws l)
+
+  module _ {n : ℕ} (s : allAre 0xA5A5A5A5 (drop n ws) ≡ true) (l : n ≤ length ws) where
+    pub written-none : n ≤ 0 → 0 ≡ written ws
+    written-none h = let z : n ≡ 0 = omega arith in sym (untouched-none ws (rw z at s))
+
+    module _ (h : 0 < n) where
+      less : n ≡ suc (n - 1)
+      less = omega arith
+
+      pub written-here : (getD ws (n - 1) 0 ≡ 0xA5A5A5A5 → ⊥) → n ≡ written ws
+      written-here d = sym (written-to ws (n - 1) (omega arith) d (rw less at s) ∙ sym less)
+
+      pub written-less : getD ws (n - 1) 0 ≡ 0xA5A5A5A5 → allAre 0xA5A5A5A5 (drop (n - 1) ws) ≡ true
+      unfolding allAre
+      written-less e =
+          let one : n - 1 + 1 ≡ n = omega arith in
+          rw (from-place ws (n - 1) (omega arith), eq-eqb (getD ws (n - 1) 0) 0xA5A5A5A5 e, one) s
+
+pub ruleset written-laws = (written-begin, written-none, written-here, written-less)

@@ -7,11 +7,12 @@ use native.Mathlib.Omega.{arith}
 use lib.ListN.{length, take, drop}
 use Rattle.text.specs.Quoted.{bytes}
 use Rattle.text.specs.Put.{Put}
-use Rattle.text.specs.Digits.{decimalText, wordsText, bytesText}
+use Rattle.text.specs.Digits.{decimalText, wordsText, bytesText, longDecimalText}
 use Rattle.text.proofs.Putting.{then}
 use Rattle.hukolearu.specs.declared.Outcome.{Outcome}
-use Rattle.results.specs.Buffers.{allAre, bothUntouched, textKept, kept}
-use Rattle.results.specs.Results.{barredText, barredBytesText, verdictText, firstNumbersText, lastNumbersText, listsText, outcomeText, leastText, foundText, clauseText, countedText, slimmedText, slotsText, deskText, readText, writtenText, listedText}
+use Rattle.results.specs.Buffers.{allAre, bothUntouched, textKept, kept, workKept, written}
+use Rattle.results.specs.Results.{barredText, barredBytesText, verdictText, firstNumbersText, lastNumbersText, listsText, outcomeText, leastText, foundText, clauseText, countedText, slimmedText, slotsText, deskText, readText, writtenText, listedText, foundCountsText, otherCountsText, lastCountsText, seasonText}
+use Rattle.season.specs.declared.Report.{Report}
 
 module _ {out a : List ℕ} {at n : ℕ} where
   pub barred-is : (ws : List ℕ) → Put out at (bytes " / ") a n → {b : List ℕ} {m : ℕ} → Put a n (wordsText ws) b m → Put out at (barredText ws) b m
@@ -131,4 +132,29 @@ module _ {out a : List ℕ} {at n : ℕ} where
   unfolding listedText
   listed-is status place count text work p el ff fr ei q r = then (then p (rw (ff, el) at q)) (rw (ei, fr, el) at r)
 
-pub ruleset line-laws = (counted-is, written-is, listed-is, slimmed-is, read-is, slots-are, desk-is, barred-is, barred-bytes-are, verdict-good, verdict-bad, lists-are, first-are, last-are, outcome-is, least-is, found-is, clause-none, clause-some)
+  pub found-counts : (r : Report) → Put out at (countedText (r .status) (r .place) (bytes " definite ") (r .definite)) a n
+      → {b : List ℕ} {m : ℕ} → Put a n (bytes " indefinite " ++ decimalText (r .indefinite)) b m → Put out at (foundCountsText r) b m
+  unfolding foundCountsText
+  found-counts r p q = then p q
+
+  pub other-counts : (r : Report) → Put out at (bytes " none " ++ decimalText (r .none)) a n
+      → {b : List ℕ} {m : ℕ} → Put a n (bytes " ranout " ++ decimalText (r .ranout)) b m
+      → {c : List ℕ} {k : ℕ} → Put b m (bytes " toolong " ++ decimalText (r .toolong)) c k → Put out at (otherCountsText r) c k
+  unfolding otherCountsText
+  other-counts r p q u =
+      then {a = bytes " none " ++ decimalText (r .none) ++ (bytes " ranout " ++ decimalText (r .ranout))} (then {a = bytes " none " ++ decimalText (r .none)} p q) u
+
+  pub last-counts : (r : Report) → Put out at (bytes " refused " ++ decimalText (r .refused)) a n
+      → {b : List ℕ} {m : ℕ} → Put a n (bytes " tries " ++ longDecimalText (r .tries)) b m → Put out at (lastCountsText r) b m
+  unfolding lastCountsText
+  last-counts r p q = then {a = bytes " refused " ++ decimalText (r .refused)} p q
+
+  pub season-is : (r : Report) (proof answer work : List ℕ) → Put out at (foundCountsText r) a n → {b : List ℕ} {m : ℕ} → Put a n (otherCountsText r) b m
+      → {c : List ℕ} {k : ℕ} → Put b m (lastCountsText r) c k → {steps words : ℕ} → steps ≡ written proof → words ≡ written answer
+      → {front-steps front-words : List ℕ} → front-steps ≡ take steps proof → front-words ≡ take words answer
+      → {intact : Bool} → intact ≡ workKept (r .status) work
+      → {d : List ℕ} {j : ℕ} → Put c k (listsText front-steps front-words intact) d j → Put out at (seasonText r proof answer work) d j
+  unfolding seasonText
+  season-is r proof answer work p q u es ew fs fw ei v = then (then (then p q) u) (rw (ei, fs, fw, es, ew) at v)
+
+pub ruleset line-laws = (counted-is, written-is, listed-is, slimmed-is, read-is, slots-are, desk-is, barred-is, barred-bytes-are, verdict-good, verdict-bad, lists-are, first-are, last-are, outcome-is, least-is, found-is, clause-none, clause-some, found-counts, other-counts, last-counts, season-is)

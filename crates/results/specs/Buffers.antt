@@ -1,7 +1,7 @@
 -- What `calls` looks for in the lent buffers: each is filled with A5A5A5A5, a buffer of bytes with A5, before a call.
 use mathlib.Core.Bool.{Bool, true, false, cond, _&&_}
 use mathlib.Core.List.{List, [], _∷_}
-use Prim.Native.Nat.{ℕ}
+use Prim.Native.Nat.{ℕ, _+_}
 use lib.Dec.{eqb, ltb}
 use lib.ListN.{length, take, drop}
 
@@ -25,3 +25,8 @@ textKept status text work = workKept status work && allAre 0xA5 text
 -- so are they, and the words after the proof and after the answer are unchanged
 unfoldable pub kept : ℕ → List ℕ → List ℕ → List ℕ → Bool
 kept status proof answer work = workKept status work && allAre 0xA5A5A5A5 proof && allAre 0xA5A5A5A5 answer
+
+-- how many words of a buffer were written: up to the last that is not as it was filled (no word of a proof or of an answer is)
+unfoldable pub written : List ℕ → ℕ
+written [] = 0
+written (w ∷ ws) = cond (allAre 0xA5A5A5A5 (w ∷ ws)) 0 (1 + written ws)

@@ -4,9 +4,10 @@ use mathlib.Core.List.{List, [], _∷_, _++_}
 use Prim.Native.Nat.{ℕ, min}
 use lib.ListN.{length, take, drop}
 use Rattle.text.specs.Quoted.{bytes}
-use Rattle.text.specs.Digits.{decimalText, wordsText, bytesText}
+use Rattle.text.specs.Digits.{decimalText, wordsText, bytesText, longDecimalText}
 use Rattle.hukolearu.specs.declared.Outcome.{Outcome}
-use Rattle.results.specs.Buffers.{allAre, bothUntouched, textKept, kept}
+use Rattle.results.specs.Buffers.{allAre, bothUntouched, textKept, kept, workKept, written}
+use Rattle.season.specs.declared.Report.{Report}
 
 -- a list after a bar
 unfoldable pub barredText : List ℕ → List ℕ
@@ -84,3 +85,20 @@ writtenText status place count text =
 unfoldable pub listedText : ℕ → ℕ → ℕ → List ℕ → List ℕ → List ℕ
 listedText status place count text work =
     countedText status place (bytes " bytes ") count ++ barredBytesText (take count text) ++ verdictText (textKept status (drop count text) work)
+
+-- a season report: the status and its place, six counts, the sum of tries; and the words that were written into the proof and answer buffers
+unfoldable pub foundCountsText : Report → List ℕ
+foundCountsText r =
+    countedText (r .status) (r .place) (bytes " definite ") (r .definite) ++ (bytes " indefinite " ++ decimalText (r .indefinite))
+
+unfoldable pub otherCountsText : Report → List ℕ
+otherCountsText r =
+    bytes " none " ++ decimalText (r .none) ++ (bytes " ranout " ++ decimalText (r .ranout)) ++ (bytes " toolong " ++ decimalText (r .toolong))
+
+unfoldable pub lastCountsText : Report → List ℕ
+lastCountsText r = bytes " refused " ++ decimalText (r .refused) ++ (bytes " tries " ++ longDecimalText (r .tries))
+
+unfoldable pub seasonText : Report → List ℕ → List ℕ → List ℕ → List ℕ
+seasonText r proof answer work =
+    foundCountsText r ++ otherCountsText r ++ lastCountsText r
+    ++ listsText (take (written proof) proof) (take (written answer) answer) (workKept (r .status) work)

@@ -1,6 +1,6 @@
 // What is looked for in the lent buffers, which are filled before every call.
 ghost use mathlib.Core.Path.{_≡_};
-ghost use Rattle.results.specs.Buffers.{allAre, bothUntouched, workKept, textKept, kept};
+ghost use Rattle.results.specs.Buffers.{allAre, bothUntouched, workKept, textKept, kept, written};
 
 fn all(list: &[u32], value: u32) -> bool
     ensures { λ r. ⌜ r ≡ allAre value (now (list .entry)) ⌝ }
@@ -46,7 +46,7 @@ pub fn both_untouched(a: &[u32], b: &[u32]) -> bool
 }
 
 // The work words are as the status says.
-fn work_kept(status: u32, work: &[u32]) -> bool
+pub fn work_kept(status: u32, work: &[u32]) -> bool
     ensures { λ r. ⌜ r ≡ workKept status (now (work .entry)) ⌝ }
 {
     if status == 1 {
@@ -81,4 +81,18 @@ pub fn kept(status: u32, proof: &[u32], answer: &[u32], work: &[u32]) -> bool
         }
     }
     false
+}
+
+// How many words of a buffer were written: up to the last that is not as it was filled.
+pub fn written(list: &[u32]) -> usize
+    ensures { λ r. ⌜ r ≡ written (now (list .entry)) ⌝ }
+{
+    let mut n = list.len();
+    while n > 0 {
+        if list[n - 1] != 0xA5A5A5A5 {
+            return n;
+        }
+        n -= 1;
+    }
+    0
 }

@@ -11,7 +11,7 @@ use lib.ListN.{length, take, drop, getD, drop-of-length-le}
 use lib.Seq.{drop-cons, take-all}
 use borrow.Author.Tests.{lt-ltb, le-ltb, eq-eqb, ne-eqb}
 use Rattle.text.specs.Put.{put, Put}
-use Rattle.text.specs.Digits.{glyphOf, digitsOf, hexText, significant, decimalText, spacedText, wordsText, pairsText, bytesText}
+use Rattle.text.specs.Digits.{glyphOf, digitsOf, hexText, significant, decimalText, spacedText, wordsText, pairsText, bytesText, longDecimalText}
 use Rattle.text.proofs.Putting.{Left, begin, further, finish, then}
 
 pub from-place : (own : List ℕ) (at : ℕ) → at < length own → drop at own ≡ getD own at 0 ∷ drop (at + 1) own
@@ -128,6 +128,59 @@ module _ {n count above : ℕ} (s : Shortening n count above) where
   pub single : count ≤ 1 → {first out : List ℕ} → out ≡ first → {at : ℕ} {out' : List ℕ} {at' : ℕ} → Put out at (digitsOf 10 1 n) out' at' → Put first at (decimalText n) out' at'
   unfolding significant digitsOf
   single h e p = let z : count ≡ 1 = omega (arith, s .some) in rw (← e, s .same, z) p
+
+-- a number of 64 bits in decimal
+pub record Trimming (n count below : ℕ) : Type 0 where
+  pub power : below ≡ 10 ^ (count - 1)
+  pub some : 1 ≤ count
+  pub within : n < 10 ^ count
+  pub same : significant (digitsOf 10 20 n) ≡ significant (digitsOf 10 count n)
+
+pub trim-begin : (n : ℕ) → n < 2 ^ 64 → Trimming n 20 10000000000000000000
+trim-begin n h = record { power = refl; some = omega arith; within = let e : 10 ^ 20 ≡ 100000000000000000000 = refl in omega arith; same = refl }
+
+pub below-some : {below : ℕ} (k : ℕ) → below ≡ 10 ^ k → 0 < below
+below-some k e = omega (arith, pow-pos 10 k (omega arith))
+
+pub leading-is : (n count below : ℕ) → 1 < count → below ≡ 10 ^ (count - 1) → {g : ℕ} → g ≡ glyphOf (n / below % 10) → {out mid : List ℕ} {at next : ℕ}
+    → Put out at (g ∷ []) mid next → {out' : List ℕ} {at' : ℕ} → Put mid next (digitsOf 10 (count - 1) n) out' at' → Put out at (digitsOf 10 count n) out' at'
+leading-is n count below h e g p q =
+    let whole : digitsOf 10 count n ≡ glyphOf (n / 10 ^ (count - 1) % 10) ∷ digitsOf 10 (count - 1) n = next-digit 10 count (count - 1) n (omega arith) in
+    rw whole (then (rw (g, e) at p) q)
+
+module _ {n count below : ℕ} (s : Trimming n count below) where
+  module _ (more : 1 < count) where
+    two-more : count ≡ suc (suc (count - 2))
+    two-more = omega arith
+
+    one-more : count - 1 ≡ suc (count - 2)
+    one-more = omega arith
+
+    as-power : below ≡ 10 ^ suc (count - 2)
+    as-power = s .power ∙ ap (λ (k : ℕ). 10 ^ k) one-more
+
+    pub trim-more : n < below → Trimming n (count - 1) (below / 10)
+    trim-more h =
+        let k : n < 10 ^ suc (count - 2) = rw (← as-power) h in
+        let less : count - 1 - 1 ≡ count - 2 = omega arith in
+        record {
+          power = next-power 10 (suc (count - 2)) (count - 2) below (omega arith) refl as-power ∙ ap (λ (m : ℕ). 10 ^ m) (sym less);
+          some = omega arith;
+          within = rw one-more k;
+          same = s .same ∙ shorter n count (count - 1) (count - 2) two-more one-more k;
+        }
+
+    pub trimmed : below ≤ n → {first out : List ℕ} → out ≡ first → {at : ℕ} {out' : List ℕ} {at' : ℕ} → Put out at (digitsOf 10 count n) out' at'
+        → Put first at (longDecimalText n) out' at'
+    trimmed h e p =
+        let low : 1 ≤ n / 10 ^ suc (count - 2) = at-least n (10 ^ suc (count - 2)) (pow-pos 10 (suc (count - 2)) (omega arith)) (rw (← as-power) h) in
+        let high : n / 10 ^ suc (count - 2) < 10 = at-most n (count - 1) (count - 2) one-more (rw two-more at (s .within)) in
+        rw (← e, s .same, longer n count (count - 2) two-more low high) p
+
+  pub one-digit : count ≤ 1 → {first out : List ℕ} → out ≡ first → {at : ℕ} {out' : List ℕ} {at' : ℕ} → Put out at (digitsOf 10 1 n) out' at'
+      → Put first at (longDecimalText n) out' at'
+  unfolding significant digitsOf
+  one-digit h e p = let z : count ≡ 1 = omega (arith, s .some) in rw (← e, s .same, z) p
 
 -- words with a space before each
 module _ {first : List ℕ} {from : ℕ} {whole out : List ℕ} {at : ℕ} (ws : List ℕ) (i : ℕ) (l : Left first from whole out at (spacedText (drop i ws))) where

@@ -28,6 +28,10 @@ significant (d ∷ e ∷ ds) = cond (eqb d 48) (significant (e ∷ ds)) (d ∷ e
 abbrev pub decimalText : ℕ → List ℕ
 decimalText w = significant (digitsOf 10 10 w)
 
+-- a number of 64 bits in decimal: it has at most twenty digits
+abbrev pub longDecimalText : ℕ → List ℕ
+longDecimalText n = significant (digitsOf 10 20 n)
+
 -- words, each with a space before it
 unfoldable pub spacedText : List ℕ → List ℕ
 spacedText [] = []

@@ -2,9 +2,9 @@
 // after its text, past the buffer's end where the text does not fit.
 ghost use mathlib.Core.Path.{_≡_};
 ghost use mathlib.Core.List.{[], _∷_, _++_};
-ghost use Prim.Native.Nat.{_+_, _^_, _≤_, _<_, min, max};
+ghost use Prim.Native.Nat.{_+_, _-_, _^_, _≤_, _<_, min, max};
 ghost use Rattle.text.specs.Put.{Put};
-ghost use Rattle.text.specs.Digits.{glyphOf, digitsOf, hexText, decimalText, spacedText, wordsText, pairsText, bytesText};
+ghost use Rattle.text.specs.Digits.{glyphOf, digitsOf, hexText, decimalText, spacedText, wordsText, pairsText, bytesText, longDecimalText};
 use words::fields::wide;
 
 // The position after a further element that has no room.
@@ -110,6 +110,31 @@ pub fn decimal(out: &mut [u8], at: usize, w: u32) -> usize
     digits(out, at, n, 10, 1, 10)
 }
 
+// The highest of so many decimal digits, and those after it. `below` is the power of ten with a zero less than there are digits.
+fn leading(out: &mut [u8], at: usize, n: u64, count: usize, below: u64) -> usize
+    requires { ⌜ (1 < count) × (below ≡ 10 ^ (count - 1)) ⌝ }
+    ensures { λ r. ⌜ Put (now (out .entry)) at (digitsOf 10 count n) (now (out .exit)) r ⌝ }
+{
+    let next = byte(out, at, glyph(n / below % 10));
+    digits(out, next, n, 10, count - 1, below)
+}
+
+// A number of 64 bits in decimal digits, with no zeros in front.
+pub fn long_decimal(out: &mut [u8], at: usize, n: u64) -> usize
+    ensures { λ r. ⌜ Put (now (out .entry)) at (longDecimalText n) (now (out .exit)) r ⌝ }
+{
+    let mut count = 20;
+    let mut below: u64 = 10_000_000_000_000_000_000;
+    while count > 1 {
+        if below <= n {
+            return leading(out, at, n, count, below);
+        }
+        below /= 10;
+        count -= 1;
+    }
+    digits(out, at, n, 10, 1, 10)
+}
+
 // Words, each with a space before it.
 pub fn spaced(out: &mut [u8], from: usize, list: &[u32]) -> usize
     ensures { λ r. ⌜ Put (now (out .entry)) from (spacedText (now (list .entry))) (now (out .exit)) r ⌝ }
@@ -171,4 +196,12 @@ pub fn field(out: &mut [u8], at: usize, name: &[u8], value: u32) -> usize
 {
     let next = bytes(out, at, name);
     decimal(out, next, value)
+}
+
+// A name and a number of 64 bits.
+pub fn long_field(out: &mut [u8], at: usize, name: &[u8], value: u64) -> usize
+    ensures { λ r. ⌜ Put (now (out .entry)) at (now (name .entry) ++ longDecimalText value) (now (out .exit)) r ⌝ }
+{
+    let next = bytes(out, at, name);
+    long_decimal(out, next, value)
 }

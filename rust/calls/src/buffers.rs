@@ -26,7 +26,8 @@ impl Buffers {
         let Report { status, place, proof_words: steps, disjuncts, answer_words, tries } = *report;
         let (proof, proof_rest) = self.proof.split_at(proof_words);
         let (answer, answer_rest) = self.answer.split_at(answer_words as usize);
-        let intact = self.work_as_promised(status) && untouched(proof_rest) && untouched(answer_rest);
+        let intact =
+            self.work_as_promised(status == Status::WorkTooShort) && untouched(proof_rest) && untouched(answer_rest);
         format!(
             "status {} place {place} proof {steps} disjuncts {disjuncts} answer {answer_words} tries {tries} / {} / {}{}",
             status as u32,
@@ -36,13 +37,24 @@ impl Buffers {
         )
     }
 
-    pub fn work_as_promised(&self, status: Status) -> bool {
-        if status == Status::WorkTooShort {
+    /// Zero as far as a call uses them, or all unchanged where they are too few.
+    pub fn work_as_promised(&self, too_short: bool) -> bool {
+        if too_short {
             return untouched(&self.work);
         }
         let (used, rest) = self.work.split_at(WORK_WORDS);
         used.iter().all(|&word| word == 0) && untouched(rest)
     }
+
+    /// What several calls in turn have written to the proof and the answer buffer. No proof or answer has the filler for a word.
+    pub fn fronts(&self) -> (&[u32], &[u32]) {
+        (written(&self.proof), written(&self.answer))
+    }
+}
+
+fn written(words: &[u32]) -> &[u32] {
+    let end = words.iter().rposition(|&word| word != FILLER).map_or(0, |last| last + 1);
+    &words[..end]
 }
 
 /// A buffer for a text.

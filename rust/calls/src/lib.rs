@@ -5,6 +5,7 @@ mod buffers;
 mod desk;
 mod line;
 mod listing;
+mod season;
 mod slim;
 mod smallest;
 mod tptp;
@@ -76,6 +77,7 @@ fn perform(engine: &mut impl Engine, line: &Line) -> Option<String> {
         "check" => base::check(engine, line),
         "desk" => desk::respond(line),
         "listing" => listing::respond(line),
+        "season" => season::respond(engine, line),
         "slim" => slim::respond(line),
         "smallest" => smallest::respond(engine, line),
         "tptp-in" => tptp::respond_in(line),

@@ -95,7 +95,7 @@ fn signed(random: &mut Random, atoms: &[Literal], signs: u32) -> Clause {
 }
 
 /// p(…) or p(…) or …, asking for any: one disjunct for each alternative.
-fn alternatives(random: &mut Random) -> Asked {
+pub fn alternatives(random: &mut Random) -> Asked {
     let vocabulary = Vocabulary::small(random);
     let predicate = random.pick(&vocabulary.predicates);
     let count = random.between(2, 4);

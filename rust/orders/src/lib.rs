@@ -2,5 +2,6 @@
 
 pub mod desk;
 pub mod listing;
+pub mod season;
 pub mod slim;
 pub mod tptp;

@@ -5,6 +5,7 @@ mod desk;
 mod listing;
 mod out;
 mod repeats;
+mod season;
 mod slim;
 mod smallest;
 mod tptp;
@@ -20,6 +21,7 @@ const KINDS: &[Kind] = &[
     listing::request,
     out::request,
     repeats::request,
+    season::request,
     slim::request,
     smallest::request,
     tptp::request,
@@ -36,6 +38,7 @@ pub fn borders() -> Vec<String> {
         listing::borders(),
         out::borders(),
         repeats::borders(),
+        season::borders(),
         slim::borders(),
         smallest::borders(),
         tptp::borders(),

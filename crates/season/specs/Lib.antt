@@ -1,0 +1,4 @@
+pub mod Season
+pub mod Promises
+pub mod SeasonCases
+pub mod Asking
