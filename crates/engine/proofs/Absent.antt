@@ -18,11 +18,11 @@ use Rattle.table.specs.Decode.{literalsFrom, clauseOf, partsFrom, clausesOf, ta
 use Rattle.table.specs.Limits.{Readable}
 use Rattle.table.proofs.Decoding.{literals-literal, literals-other}
 use Rattle.rules.proofs.Lists.{none-some}
-use Rattle.tableaux.specs.declared.candidates.Scan.{Scan}
-use Rattle.tableaux.specs.declared.candidates.Candidate.{Candidate}
-use Rattle.tableaux.specs.declared.candidates.Candidate.the-variants.{Entry, Done}
-use Rattle.tableaux.specs.Scanning.{begun, pastWord, isEntry, entryFrom}
-use Rattle.tableaux.proofs.Scans.{past-clause, past-literal, past-other}
+use Rattle.index.specs.declared.entries.Scan.{Scan}
+use Rattle.index.specs.declared.entries.Candidate.{Candidate}
+use Rattle.index.specs.declared.entries.Candidate.the-variants.{Entry, Done}
+use Rattle.index.specs.Scanning.{begun, pastWord, isEntry, entryFrom}
+use Rattle.index.proofs.Scans.{past-clause, past-literal, past-other}
 use Rattle.engine.proofs.Sound.{Sound, variable, function, literal, sound-word, sound-clause, first-clause}
 use Rattle.engine.proofs.Places.{table-clauses}
 

@@ -34,6 +34,7 @@ later-then leaves steps a b =
       nexts = λ c l. b .nexts c (omega arith) ∙ a .nexts c l;
       steps = λ i l. b .steps i (omega arith) ∙ a .steps i l;
       marks = λ v l. b .marks v l ∙ a .marks v l;
+      notes = λ i l h. b .notes i l h ∙ a .notes i l h;
     }
 
 pub later-none : (m : List ℕ) (place : Place) → Later m m place
@@ -49,6 +50,7 @@ later-none m place =
       nexts = λ c l. refl;
       steps = λ i l. refl;
       marks = λ v l. refl;
+      notes = λ i l h. refl;
     }
 
 term-stays : (f m m′ : List ℕ) (r : ℕ) → startAt m′ (r / 256) ≡ startAt m (r / 256) → termOf f m′ r ≡ termOf f m r
@@ -243,6 +245,7 @@ module _ {f m m₂ m₃ : List ℕ} {place : Place} (ready : Ready f m place) (l
               nexts = λ c h. leaf-word (1728 + c) (omega arith) (omega arith) ∙ later .nexts c h;
               steps = λ i h. leaf-word (1984 + i) (omega arith) (omega arith) ∙ later .steps i h;
               marks = λ v h. leaf-word (2240 + v) (omega arith) (omega arith) ∙ later .marks v h;
+              notes = λ i h k. leaf-word i (omega arith) k ∙ later .notes i h k;
             };
         count = n;
         copies = copied;

@@ -22,6 +22,7 @@ use Rattle.engine.specs.declared.search.Move.{Move}
 use Rattle.engine.specs.declared.search.Searched.{Searched}
 use Rattle.engine.specs.declared.search.Task.{Task}
 use Rattle.tableaux.specs.declared.tableau.Place.{Place}
+use Rattle.index.proofs.Linking.{linked-same}
 use Rattle.tableaux.specs.declared.tableau.Taken.{Taken}
 use Rattle.unification.specs.declared.unify.Meeting.{Meeting}
 use Rattle.unification.specs.declared.unify.Meeting.the-variants.{Made, Clash, Circle}
@@ -82,7 +83,12 @@ module _ {f m m₁ : List ℕ} {task : Task} {place : Place} (treats : Treats f 
     onward = takes .onward met
 
     pub attempt-treats : Treats f m₁ task (taken .place)
-    attempt-treats = record { asked = treats .asked; ready = onward .ready }
+    attempt-treats =
+        record {
+          asked = treats .asked;
+          ready = onward .ready;
+          linked = λ some. linked-same (takes .good .size) (takes .later .notes) (treats .linked some);
+        }
 
     pub attempt-falls : roomAt f m₁ task (taken .place) < roomAt f m task place
     attempt-falls = onward .falls

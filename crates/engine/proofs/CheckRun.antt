@@ -5,9 +5,10 @@ use Prim.Native.Nat.{ℕ, suc, _+_, _-_, _≤_, _<_}
 use native.Mathlib.Numerals.{add-one}
 use native.Mathlib.Omega.{arith}
 use borrow.Author.Tests.{eq-eqb}
-use lib.ListN.{length, drop, getD, drop-of-length-le}
+use lib.ListN.{length, take, drop, getD, drop-of-length-le}
 use Rattle.words.specs.Steps.{stepOf}
 use Rattle.table.specs.File.{judge, tableIn}
+use Rattle.table.proofs.Accepted.{accepted}
 use Rattle.table.proofs.AcceptedTable.{body-readable, question-start}
 use Rattle.table.proofs.Terms.{from-place}
 use Rattle.rules.specs.Setting.{base}
@@ -18,8 +19,11 @@ use Rattle.rules.specs.Machinery.Play.{Play, begin, Performed, perform, atEnd, 
 use Rattle.unification.specs.State.{markAt, ClauseAt, bindingsOf}
 use Rattle.tableaux.specs.Leaves.{leafAt, questionsAmong}
 use Rattle.unification.specs.State.{nextAt}
-use Rattle.tableaux.specs.Ready.{openLeaves, Ready, Begun}
-use Rattle.engine.specs.Checking.{statusFor, Moved, PlayAt, Says, Checked, AcceptedAs, RefusedAs}
+use Rattle.tableaux.specs.Ready.{openLeaves, Ready, NotesKept, Begun}
+use Rattle.index.specs.Noting.{Few, Indexed}
+use Rattle.index.proofs.Linking.{indexed-same}
+use Rattle.engine.proofs.Entries.{few-literals}
+use Rattle.engine.specs.Checking.{statusFor, NotedFor, Moved, PlayAt, Says, Checked, AcceptedAs, RefusedAs}
 use Rattle.tableaux.specs.declared.tableau.Place.{Place}
 use Rattle.engine.specs.declared.check.Judged.{Judged}
 use Rattle.engine.specs.declared.check.Judged.the-variants.{On, Malformed, NotAllowed, Clashes, Circular}
@@ -34,8 +38,17 @@ pub record Running (f m : List ℕ) (bound : ℕ) (offered : List ℕ) (place : 
   pub steps : place .steps ≡ i
   pub within : i ≤ length offered
   pub play : Play
+  pub noted : NotedFor bound f m
   pub stands : PlayAt f m place play
   pub same : check (base (tableIn f) bound) (map stepOf offered) ≡ checkFrom (base (tableIn f) bound) play i (map stepOf (drop i offered))
+
+-- the body of an accepted file, as its literals are noted
+pub body-literals : (f : List ℕ) → judge f .status ≡ 0 → {body : ℕ} → body ≡ length f - 4 → (body ≤ length f) × (body ≤ 16000) × Few (take body f)
+body-literals f accepts e =
+    rw e (omega arith, omega (arith, accepted f accepts .most), few-literals f (length f - 4) (omega arith) (body-readable f accepts))
+
+pub noted-body : {f m : List ℕ} {body : ℕ} → body ≡ length f - 4 → Indexed f body m → Indexed f (length f - 4) m
+noted-body e g = rw e at g
 
 -- the start
 module _ (f : List ℕ) (accepts : judge f .status ≡ 0) where
@@ -57,10 +70,19 @@ module _ (f : List ℕ) (accepts : judge f .status ≡ 0) where
           questions = rw (b .copies, b .start, eq-eqb question (judge f .question) e);
         }
 
-    pub run-begin : (bound : ℕ) (offered : List ℕ) → Running f m bound offered place 0
+    pub run-begin : {bound : ℕ} {m₀ : List ℕ} → NotedFor bound f m₀ → NotesKept m₀ m → (offered : List ℕ) → Running f m bound offered place 0
     unfolding check
-    run-begin bound offered =
-        record { ready = b .ready; unnumbered = b .unnumbered; steps = b .steps; within = omega arith; play = begin (tableIn f); stands = begun-stands; same = refl }
+    run-begin noted kept offered =
+        record {
+          ready = b .ready;
+          unnumbered = b .unnumbered;
+          steps = b .steps;
+          within = omega arith;
+          play = begin (tableIn f);
+          noted = λ some. indexed-same (b .ready .good .size) kept (noted some);
+          stands = begun-stands;
+          same = refl;
+        }
 
 -- a step
 module _ {f m : List ℕ} {bound : ℕ} {offered : List ℕ} {place : Place} {i : ℕ} (g : Running f m bound offered place i) where
@@ -85,6 +107,7 @@ module _ {f m : List ℕ} {bound : ℕ} {offered : List ℕ} {place : Place} {i 
           steps = omega (arith, moved .steps, g .steps);
           within = omega arith;
           play = goes .0;
+          noted = λ some. indexed-same (moved .ready .good .size) (moved .notes) (g .noted some);
           stands = goes .2;
           same = same-step ∙ rw (goes .1, add-one);
         }

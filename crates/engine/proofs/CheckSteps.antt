@@ -29,11 +29,13 @@ use Rattle.unification.specs.Good.{wordAt, Inside, LiteralStands}
 use Rattle.tableaux.specs.Leaves.{chain, literalOfLeaf, leafAt, leavesFrom}
 use Rattle.tableaux.specs.Ready.{Ready, leafOf, restOf, Reducible, Reduced, Extensible, Extended}
 use Rattle.engine.specs.Performing.{Comes}
-use Rattle.tableaux.specs.Scanning.{EntryAt, IsEntry, otherSign, extensionAt, literalFrom, LiteralAt, Enters}
-use Rattle.engine.specs.Checking.{Upward, lineage, aboveOf, judgedBy, Moved, Moves, PlayAt, Says, Checked}
-use Rattle.tableaux.specs.declared.candidates.Scan.{Scan}
-use Rattle.tableaux.specs.declared.candidates.Candidate.{Candidate}
-use Rattle.tableaux.specs.declared.candidates.Candidate.the-variants.{Entry, Done}
+use Rattle.index.specs.Noting.{Indexed}
+use Rattle.index.specs.Scanning.{EntryAt, IsEntry, otherSign}
+use Rattle.tableaux.specs.Entering.{extensionAt, literalFrom, LiteralAt, Enters}
+use Rattle.engine.specs.Checking.{Upward, lineage, aboveOf, judgedBy, NotedFor, Moved, Moves, PlayAt, Says, Checked}
+use Rattle.index.specs.declared.entries.Scan.{Scan}
+use Rattle.index.specs.declared.entries.Candidate.{Candidate}
+use Rattle.index.specs.declared.entries.Candidate.the-variants.{Entry, Done}
 use Rattle.tableaux.specs.declared.tableau.Place.{Place}
 use Rattle.tableaux.specs.declared.tableau.Taken.{Taken}
 use Rattle.unification.specs.declared.unify.Meeting.{Meeting}
@@ -269,7 +271,7 @@ module _ {f m : List ℕ} {place : Place} (ready : Ready f m place) (word : ℕ)
               let fitting = fits-other small (stands-literate f m _ (leaf-stands ready n)) (stands-literate f m r other-stands) other-sign in
               let there = above-some ready n height (some-height word s) (sym g ∙ e) in
               judged bound word (taken .meeting) ej
-              (λ _. record { ready = h .ready; steps = h .steps; marks = h .stepping .later .marks })
+              (λ _. record { ready = h .ready; steps = h .steps; marks = h .stepping .later .marks; notes = h .stepping .later .notes })
               (λ p st. rw s (reduction-comes (tableIn f) bound ready (omega arith) h p st height there fitting))
 
 -- the leaf's word can be read
@@ -291,19 +293,19 @@ module _ {f m : List ℕ} {place : Place} (ready : Ready f m place) (bound word 
         unallowed bound word (extension-refused word s)
         (λ p st. rw s (extension-over (tableIn f) bound (p .tableau) (leaf ready n) (right ready n) (first-leaf ready n p st) clause literal (omega (arith, st .extensions))))
 
-    module _ (accepts : judge f .status ≡ 0) {body : ℕ} (eb : body ≡ length f - 4) (q : Candidate) (h : IsEntry (take body f) clause literal q) where
-      in-body : IsEntry (bodyOf f) clause literal q
-      in-body = rw eb at h
+    pub extend-noted : NotedFor bound f m → copiesOf m ≤ bound → Indexed f (length f - 4) m
+    extend-noted noted few = noted (omega (arith, ready .begun))
 
+    module _ (accepts : judge f .status ≡ 0) (q : Candidate) (h : IsEntry (take (length f - 4) f) clause literal q) where
       pub extend-missing : q ≡ Done → Checked f m m bound place word NotAllowed
       extend-missing e =
-          let gone = entry-none f (length f - 4) (short f) (body-readable f accepts) clause literal (rw e at in-body) in
+          let gone = entry-none f (length f - 4) (short f) (body-readable f accepts) clause literal (rw e at h) in
           unallowed bound word (extension-refused word s)
           (λ p st. rw s (extension-none (tableIn f) bound (p .tableau) (leaf ready n) (right ready n) (first-leaf ready n p st) clause literal gone))
 
       module _ {scan : Scan} (g : q ≡ Entry scan) where
         entry : EntryAt (bodyOf f) clause literal scan
-        entry = rw g at in-body
+        entry = rw g at h
 
         scan-enters : Enters f (tableIn f) (judge f .question) scan
         scan-enters = rw (question-start f accepts) at (entry-enters f (length f - 4) (short f) (body-readable f accepts) entry)
@@ -372,5 +374,5 @@ module _ {f m : List ℕ} {place : Place} (ready : Ready f m place) (bound word 
                 let literate = copy-literate scan-literal m′ (copiesOf m) (x .starts) in
                 let fitting = fits-other small leaf-literate literate (copy-word scan-literal m′ (copiesOf m) (x .starts) ∙ entered-sign) in
                 judged bound word (taken .meeting) ej
-                (λ e. record { ready = x .hung e .ready; steps = x .hung e .steps; marks = x .stepping .later .marks })
+                (λ e. record { ready = x .hung e .ready; steps = x .hung e .steps; marks = x .stepping .later .marks; notes = x .stepping .later .notes })
                 (λ p st. rw scan-step (extension-comes (tableIn f) bound ready (omega arith) scan scan-enters x few p st fitting))

@@ -19,7 +19,7 @@ use Rattle.unification.specs.State.{copiesOf, literalAt, parentAt, literalAtRef
 use Rattle.unification.specs.Good.{wordAt, Inside, LiteralStands}
 use Rattle.tableaux.specs.Leaves.{literalOfLeaf, branchFrom}
 use Rattle.tableaux.specs.Ready.{Ready, Later, leafOf}
-use Rattle.tableaux.specs.Scanning.{otherSign}
+use Rattle.index.specs.Scanning.{otherSign}
 use Rattle.engine.specs.Searching.{without, Treats, Wanted, leafTreated, Against, Again, Rowed, reductionsAt}
 use Rattle.engine.specs.declared.search.Ending.the-variants.{Nothing}
 use Rattle.engine.specs.declared.search.Searched.{Searched}

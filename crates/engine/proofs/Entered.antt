@@ -15,10 +15,11 @@ use Rattle.table.specs.Body.{bodyFault, starts, lastOf}
 use Rattle.table.specs.Decode.{tableOf}
 use Rattle.table.specs.Limits.{Readable}
 use Rattle.rules.proofs.Lists.{none-some}
-use Rattle.tableaux.specs.declared.candidates.Scan.{Scan}
+use Rattle.index.specs.declared.entries.Scan.{Scan}
 use Rattle.tableaux.specs.Leaves.{literalOffsets, offsetsAt}
-use Rattle.tableaux.specs.Scanning.{begun, pastWord, pastWords, Standing, Enters}
-use Rattle.tableaux.proofs.Scans.{past-clause, past-literal, past-other}
+use Rattle.index.specs.Scanning.{begun, pastWord, pastWords, Standing}
+use Rattle.tableaux.specs.Entering.{Enters}
+use Rattle.index.proofs.Scans.{past-clause, past-literal, past-other}
 use Rattle.engine.proofs.Sound.{Sound, variable, function, literal, sound-word, SoundClause, sound-clause, first-clause}
 use Rattle.engine.proofs.Places.{place-next, place-own, clause-numbered, asks-last}
 use Rattle.engine.proofs.Offsets.{offsets-literal, offsets-other, literal-at}

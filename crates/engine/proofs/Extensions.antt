@@ -21,9 +21,10 @@ use Rattle.table.proofs.Decoding.{literals-literal, literals-other}
 use Rattle.rules.specs.Substitution.{Variable}
 use Rattle.rules.specs.Tableau.{fresh, copyOf}
 use Rattle.rules.specs.Order.{entries, extensions}
-use Rattle.tableaux.specs.declared.candidates.Scan.{Scan}
-use Rattle.tableaux.specs.Scanning.{begun, pastWord, entriesFrom, otherSign, extensionAt}
-use Rattle.tableaux.proofs.Scans.{past-clause, past-literal, past-other}
+use Rattle.index.specs.declared.entries.Scan.{Scan}
+use Rattle.index.specs.Scanning.{begun, pastWord, entriesFrom, otherSign}
+use Rattle.tableaux.specs.Entering.{extensionAt}
+use Rattle.index.proofs.Scans.{past-clause, past-literal, past-other}
 use Rattle.engine.proofs.Sound.{Sound, variable, function, literal, sound-word, terms-owed, sound-clause, first-clause}
 use Rattle.engine.proofs.Places.{table-clauses}
 use Rattle.engine.proofs.Fitting.{other-kind, fits-by-word}

@@ -18,7 +18,10 @@ use Rattle.rules.proofs.Search.{any-depth-says, at-most-199-left}
 use Rattle.engine.specs.Ended as ended
 use Rattle.unification.specs.State.{startAt, copiesOf, ClauseAt, bindingsOf}
 use Rattle.tableaux.specs.Leaves.{questionsAmong}
-use Rattle.tableaux.specs.Ready.{openLeaves, Stands, Begun}
+use Rattle.tableaux.specs.Ready.{openLeaves, Stands, NotesKept, Begun}
+use Rattle.index.specs.Noting.{Few, Linked}
+use Rattle.index.proofs.Linking.{linked-same}
+use Rattle.engine.proofs.Entries.{few-literals}
 use Rattle.engine.specs.Searching.{questionAt, Asked, roomAt, Treats, Leaves, Tells, Treated, Ends}
 use Rattle.engine.specs.declared.search.Ending.{Ending}
 use Rattle.engine.specs.declared.search.Ending.the-variants.{Found, Nothing, Out}
@@ -43,6 +46,9 @@ module _ (f : List ℕ) (z : judge f .status ≡ 0) {question : ℕ} (eq : quest
 
   pub question-clause : ClauseAt f question
   question-clause = rw question-last (question-placed f (length f - 4) fits (body-readable f z) .0)
+
+  pub file-literals : Few (take (length f - 4) f)
+  file-literals = few-literals f (length f - 4) fits (body-readable f z)
 
   -- the start stands for the rules' own
   module _ {m : List ℕ} {place : Place} (begun : Begun f m question place) where
@@ -81,8 +87,9 @@ module _ (f : List ℕ) (z : judge f .status ≡ 0) {question : ℕ} (eq : quest
         }
 
     module _ {m : List ℕ} {place : Place} (begun : Begun f m question place) where
-      pub find-treats : Treats f m task place
-      find-treats = record { asked = file-asked; ready = begun .ready }
+      pub find-treats : {m₀ : List ℕ} → (0 < bound → Linked f (length f - 4) m₀ 0) → NotesKept m₀ m → Treats f m task place
+      find-treats linked kept =
+          record { asked = file-asked; ready = begun .ready; linked = λ some. linked-same (begun .ready .good .size) kept (linked some) }
 
       enough : roomAt f m task place ≤ 199
       enough = omega (arith, begun .ready .taken, begun .ready .room, begun .copies, begun .steps)

@@ -12,7 +12,7 @@ use Rattle.table.specs.Decode.{literalOf}
 use Rattle.rules.specs.Substitution.{Variable}
 use Rattle.rules.specs.Tableau.{fits}
 use Rattle.rules.proofs.Instances.{arity-unders}
-use Rattle.tableaux.specs.Scanning.{otherSign}
+use Rattle.index.specs.Scanning.{otherSign}
 
 same-tests : (a b : Bool) → (a ≡ true → b ≡ true) → (b ≡ true → a ≡ true) → a ≡ b
 same-tests true b f g = sym (f refl)

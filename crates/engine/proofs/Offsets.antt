@@ -20,7 +20,7 @@ use Rattle.rules.proofs.Lists.{none-some}
 use Rattle.rules.proofs.Lists.{map-some}
 use Rattle.unification.specs.State.{ownWords, ClauseAt}
 use Rattle.tableaux.specs.Leaves.{literalOffsets, offsetsAt}
-use Rattle.tableaux.specs.Scanning.{literalFrom, LiteralAt, Owes}
+use Rattle.tableaux.specs.Entering.{literalFrom, LiteralAt, Owes}
 use Rattle.engine.proofs.Sound.{Sound, variable, function, literal, sound-word, nothing-owed, SoundClause, sound-clause}
 use Rattle.engine.proofs.Places.{place-word, place-next, place-inside}
 

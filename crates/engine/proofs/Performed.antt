@@ -27,8 +27,9 @@ use Rattle.unification.specs.Good.{wordAt, Inside, LiteralStands, Good, Outcome
 use Rattle.tableaux.specs.Leaves.{chain, leafAt, leavesFrom, questionsAmong}
 use Rattle.tableaux.specs.Ready.{openLeaves, Ready, Stands, Alike, restOf, Reduced, Hung, Extended}
 use Rattle.engine.specs.Performing.{Comes}
-use Rattle.tableaux.specs.Scanning.{Owes, LiteralAt, Enters, otherSign, extensionAt}
-use Rattle.tableaux.specs.declared.candidates.Scan.{Scan}
+use Rattle.index.specs.Scanning.{otherSign}
+use Rattle.tableaux.specs.Entering.{Owes, LiteralAt, Enters, extensionAt}
+use Rattle.index.specs.declared.entries.Scan.{Scan}
 use Rattle.tableaux.specs.declared.tableau.Place.{Place}
 use Rattle.tableaux.specs.declared.tableau.Taken.{Taken}
 use Rattle.unification.specs.declared.unify.Meeting.{Meeting}

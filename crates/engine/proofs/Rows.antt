@@ -16,6 +16,7 @@ use Rattle.engine.specs.declared.search.Move.{Move}
 use Rattle.engine.specs.declared.search.Searched.{Searched}
 use Rattle.engine.specs.declared.search.Task.{Task}
 use Rattle.tableaux.specs.declared.tableau.Place.{Place}
+use Rattle.index.proofs.Linking.{linked-same}
 use Rattle.engine.proofs.Again.{open-stays, ready-again, stands-again, again-none, again-then}
 
 -- a row, and another after it
@@ -64,7 +65,12 @@ room-again {f} {m} {m′} {place} task ready again =
     omega (arith, again .copies)
 
 pub treats-again : {f m m′ : List ℕ} {task : Task} {place : Place} → Treats f m task place → Again f m m′ place → Treats f m′ task place
-treats-again treats again = record { asked = treats .asked; ready = ready-again (treats .ready) again }
+treats-again treats again =
+    record {
+      asked = treats .asked;
+      ready = ready-again (treats .ready) again;
+      linked = λ some. linked-same (again .good .size) (again .later .notes) (treats .linked some);
+    }
 
 -- so far the candidates up to the rest have failed
 pub record Rowing (f m₀ m : List ℕ) (task : Task) (place : Place) (tries left : ℕ) (all rest : List Step) : Type 0 where

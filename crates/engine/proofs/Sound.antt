@@ -16,7 +16,7 @@ use Rattle.table.specs.Body.{reading, bodyFault}
 use Rattle.table.specs.Decode.{rest, before, termsFrom}
 use Rattle.table.proofs.Bools.{and-left, cond-none}
 use Rattle.table.proofs.Bodies.{sound-fits}
-use Rattle.tableaux.specs.Scanning.{Owes}
+use Rattle.tableaux.specs.Entering.{Owes}
 
 -- a word of a clause that is well formed from this word on, where so many literals and terms are owed
 pub data Sound (v place w : ℕ) (ws : List ℕ) : ℕ → ℕ → Type 0 where

@@ -11,9 +11,9 @@ use Rattle.unification.specs.State.{copiesOf}
 use Rattle.unification.specs.Good.{wordAt}
 use Rattle.tableaux.specs.Leaves.{leavesFrom}
 use Rattle.tableaux.specs.Ready.{openLeaves, leafOf, restOf, Alike, Reducible, Reduced, Extensible, Hung, Extended, hangingAt}
-use Rattle.tableaux.specs.Scanning.{Enters, extensionAt}
+use Rattle.tableaux.specs.Entering.{Enters, extensionAt}
 use Rattle.engine.specs.Searching.{tableAt, questionAt, Treats, Wanted, Against, Allows, Onward, Takes}
-use Rattle.tableaux.specs.declared.candidates.Scan.{Scan}
+use Rattle.index.specs.declared.entries.Scan.{Scan}
 use Rattle.engine.specs.declared.search.Move.the-variants.{Reduce, Enter}
 use Rattle.engine.specs.declared.search.Task.{Task}
 use Rattle.tableaux.specs.declared.tableau.Place.{Place}

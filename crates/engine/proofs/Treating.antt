@@ -1,14 +1,13 @@
 -- A leaf is treated: its reductions, then its extensions, unless the bound's are used.
 use mathlib.Core.Path.{_≡_, refl, sym, ap, ap₂, _∙_}
 use mathlib.Core.Bool.{false, cond}
-use mathlib.Core.List.{List, [], _∷_, _++_}
-use Prim.Native.Nat.{ℕ, suc, _+_, _-_, _/_, _^_, _≤_, _<_}
+use mathlib.Core.List.{List, [], _∷_, _++_, map}
+use Prim.Native.Nat.{ℕ, suc, _-_, _/_, _%_, _^_, _≤_, _<_}
 use native.Mathlib.Omega.{arith}
 use borrow.Author.Tests.{lt-ltb, le-ltb}
 use lib.Dec.{ltb}
-use lib.ListN.{length, take, drop, getD}
-use lib.Seq.{getD-take, length-take-le}
-use Rattle.words.specs.Fields.{variablesOf}
+use lib.ListN.{length, take, getD}
+use Rattle.words.specs.Fields.{kindOf, variablesOf}
 use Rattle.words.specs.declared.Step.{Step}
 use Rattle.table.specs.Limits.{Words}
 use Rattle.table.specs.Syntax.{allClauses}
@@ -23,9 +22,10 @@ use Rattle.unification.specs.State.{startAt, copiesOf, nextAt, wordsAt, literal
 use Rattle.unification.specs.Good.{wordAt, Inside}
 use Rattle.tableaux.specs.Leaves.{leafAt}
 use Rattle.tableaux.specs.Ready.{openLeaves, Stands, leafOf}
-use Rattle.tableaux.specs.Scanning.{begun, pastWord, entriesFrom, Standing, NextEntry, otherSign, extensionAt, extensionsFrom}
-use Rattle.engine.specs.Searching.{without, tableAt, settingAt, questionAt, roomAt, Treats, Wanted, Allows, Again, Leaves, Tells, Treated, Rowed, reductionsAt, extensionsAt}
-use Rattle.tableaux.specs.declared.candidates.Scan.{Scan}
+use Rattle.index.specs.Scanning.{otherSign}
+use Rattle.tableaux.specs.Entering.{extensionAt}
+use Rattle.engine.specs.Searching.{without, tableAt, settingAt, questionAt, roomAt, Treats, Wanted, Allows, Again, Leaves, Tells, Treated, Rowed, reductionsAt, extensionsAt, extensionsAhead}
+use Rattle.index.specs.declared.entries.Scan.{Scan}
 use Rattle.engine.specs.declared.search.Ending.{Ending}
 use Rattle.engine.specs.declared.search.Ending.the-variants.{Found, Nothing, Out}
 use Rattle.engine.specs.declared.search.Move.the-variants.{Enter}
@@ -33,8 +33,11 @@ use Rattle.engine.specs.declared.search.Searched.{Searched}
 use Rattle.engine.specs.declared.search.Task.{Task}
 use Rattle.tableaux.specs.declared.tableau.Place.{Place}
 use Rattle.tableaux.proofs.Chains.{chain-none}
-use Rattle.tableaux.proofs.Scans.{standing-begin}
-use Rattle.engine.proofs.Entries.{extensions-begin, extensions-next, extensions-done, next-enters}
+use Rattle.index.specs.Noting.{keysIn, scansIn, linkAt, firstFrom, Unpacks, unpacked, Linked}
+use Rattle.index.proofs.Linking.{linked-same}
+use Rattle.index.proofs.Reached.{Leads, leads-first, all-ahead, lead-low, lead-unpacks, leads-next, lead-less, lead-ahead, lead-stands, lead-inside, lead-word, ahead-none}
+use Rattle.engine.proofs.Entries.{extensions-begin, scan-enters}
+use Rattle.engine.proofs.Fitting.{other-kind}
 use Rattle.engine.proofs.Performed.{open-first, Literate, stands-literate, stands-inside}
 use Rattle.engine.proofs.Again.{stands-again, again-then}
 use Rattle.engine.proofs.Attempts.{nothing-told}
@@ -182,49 +185,64 @@ module _ {f m : List ℕ} {task : Task} {place : Place} (treats : Treats f m tas
             same-extensions =
                 sym (ap₂ (λ (l : Leaf) (n : ℕ). extensions (l .literal) n 0 (allClauses (tableAt f task))) (leaf-stays (treats .ready) some-open (back .later)) (back .copies))
 
-    -- the extensions, by a scan of the body
-    abbrev body : List ℕ
-    body = take (task .body) f
-
-    body-small : Words body
+    -- the extensions, by the notes of the body's literals
+    body-small : Words (take (task .body) f)
     body-small = each-take (λ (w : ℕ). w < 2 ^ 32) (task .body) f (words-each f (treats .asked .small))
 
-    module _ {wanted : ℕ} (wants : Wanted f m place wanted) where
-      pub scan-begin : {scan : Scan} → scan ≡ begun → Standing body scan
-      scan-begin e = rw e (standing-begin body)
+    module _ (unused : copiesOf m ≤ task .bound) where
+      pub linked : Linked f (task .body) m 0
+      linked = treats .linked (omega (arith, treats .ready .begun))
 
-      pub scan-row : {scan : Scan} → scan ≡ begun → (tries : ℕ) → Rowing f m m task place tries tries (extensionsAt f m task place) (extensionsFrom body wanted scan)
-      unfolding literalAtReference
-      scan-row {scan} e tries = rowing-by treats same (rowing-begin treats tries (extensionsAt f m task place))
-        where
-          same : extensionsAt f m task place ≡ extensionsFrom body wanted scan
+      module _ {wanted : ℕ} (wants : Wanted f m place wanted) where
+        kind : kindOf wanted ≡ 2
+        kind = rw wants (other-kind (wordAt f m (leafOf m place)) (leaf-literate .shaped) (treats .asked .small _))
+
+        module _ {link : ℕ} (el : link ≡ firstFrom wanted 0 (keysIn f (task .body))) where
+          pub link-begin : Leads f (task .body) wanted link
+          link-begin = leads-first linked wanted el
+
+          same : extensionsAt f m task place ≡ extensionsAhead f task wanted link
+          unfolding literalAtReference
           same =
               let l = leaf-literate in
-              sym (rw (e, wants, ← l .word)
+              sym (rw (wants, ← l .word)
               (extensions-begin f (task .body) (treats .asked .fits) (treats .asked .readable) body-small {v = variablesOf (getD f (startAt m (leafOf m place / 256)) 0)} (wordsAt f m (leafOf m place)) (rw (l .word) (l .shaped)) (rw (l .word) (treats .asked .small _)) (rw (l .word) (l .owing)) (fresh (leafOf m place / 256)) (copiesOf m)))
+              ∙ ap (map extensionAt) (all-ahead linked wanted el kind)
 
-      module _ {m₁ : List ℕ} {tries left : ℕ} {all : List Step} (scan : Scan) (rowing : Rowing f m m₁ task place tries left all (extensionsFrom body wanted scan)) where
-        pub scan-end : entriesFrom wanted scan (drop (scan .at) body) ≡ [] → {r : Searched} → r ≡ without Nothing left → Rowed f m m₁ task place tries r all
-        scan-end e es = rowing-end treats (rowing-by treats (extensions-done body wanted scan e) rowing) es
+          pub link-row : (tries : ℕ) → Rowing f m m task place tries tries (extensionsAt f m task place) (extensionsAhead f task wanted link)
+          link-row tries = rowing-by treats same (rowing-begin treats tries (extensionsAt f m task place))
 
-        module _ {entry : Scan} (next : NextEntry body wanted scan entry) where
-          pub scan-next : Rowing f m m₁ task place tries left all (extensionAt entry ∷ extensionsFrom body wanted (pastWord entry wanted))
-          scan-next = rowing-by treats (extensions-next next) rowing
+        module _ {m₁ : List ℕ} {tries left : ℕ} {all : List Step} (link : ℕ) (leads : Leads f (task .body) wanted link) (rowing : Rowing f m m₁ task place tries left all (extensionsAhead f task wanted link)) where
+          pub link-end : link ≡ 0 → {r : Searched} → r ≡ without Nothing left → Rowed f m m₁ task place tries r all
+          link-end z er = rowing-end treats (rowing-by treats (ap (map extensionAt) (ahead-none (keysIn f (task .body)) (scansIn f (task .body)) wanted z)) rowing) er
 
-          inside : entry .at < task .body
-          inside = omega (arith, next .inside, length-take-le (task .body) f (treats .asked .fits))
+          linked-still : Linked f (task .body) m₁ 0
+          linked-still = linked-same (rowing .again .good .size) (rowing .again .later .notes) linked
 
-          pub scan-allows : copiesOf m ≤ task .bound → Allows f m₁ task place (Enter entry)
-          scan-allows unused = (
-            next-enters f (task .body) (treats .asked .fits) (treats .asked .readable) (leaf-literate .shaped) (treats .asked .small _) (rw wants at next),
-            sym (getD-take (task .body) f (entry .at) 0 inside) ∙ next .here ∙ wants ∙ ap otherSign (sym (leaf-word-stays (treats .ready) some-open (rowing .again .later))),
-            omega (arith, rowing .again .copies),
-          )
+          module _ (n : link ≡ 0 → ⊥) where
+            pub link-low : (length m₁ ≡ 16384) × (link - 1 < 3584)
+            link-low = lead-low linked-still wanted leads n
 
-          pub scan-small : (entry .at < 4294967295) × (entry .clauses ≤ entry .at) × (entry .literals ≤ entry .at)
-          scan-small = (omega (arith, inside, treats .asked .short), next .standing .clauses, next .standing .literals)
+            pub link-unpacks : Unpacks m₁ (link - 1)
+            link-unpacks = lead-unpacks linked-still wanted leads n
 
-          pub scan-less : {past : Scan} → past ≡ pastWord entry wanted → length (extensionsFrom body wanted past) < length (extensionsFrom body wanted scan)
-          scan-less {past} e =
-              let n : length (extensionsFrom body wanted scan) ≡ suc (length (extensionsFrom body wanted (pastWord entry wanted))) = ap length (extensions-next next) in
-              rw e (omega (arith, n))
+            module _ {next : ℕ} (en : next ≡ linkAt m₁ (link - 1)) where
+              pub link-leads : Leads f (task .body) wanted next
+              link-leads = leads-next linked-still wanted leads n en
+
+              pub link-less : (4096 - next) % 4096 < (4096 - link) % 4096
+              link-less = lead-less linked-still wanted leads n en
+
+              module _ {entry : Scan} (es : entry ≡ unpacked m₁ (link - 1)) where
+                pub link-next : Rowing f m m₁ task place tries left all (extensionAt entry ∷ extensionsAhead f task wanted next)
+                link-next = rowing-by treats (ap (map extensionAt) (lead-ahead linked-still wanted leads n en es)) rowing
+
+                word : getD f (entry .at) 0 ≡ wanted
+                word = lead-word linked-still wanted leads n en es
+
+                pub link-allows : Allows f m₁ task place (Enter entry)
+                link-allows = (
+                  scan-enters f (task .body) (treats .asked .fits) (treats .asked .readable) (lead-stands linked-still wanted leads n en es) (lead-inside linked-still wanted leads n en es) (ap (λ (w : ℕ). kindOf w) word ∙ kind),
+                  word ∙ wants ∙ ap otherSign (sym (leaf-word-stays (treats .ready) some-open (rowing .again .later))),
+                  omega (arith, rowing .again .copies),
+                )

@@ -2,7 +2,7 @@
 use mathlib.Core.List.{List, map}
 use mathlib.Core.Option.{Option, none, some}
 use mathlib.Core.Path.{_≡_}
-use Prim.Native.Nat.{ℕ, _+_, _≤_, _<_}
+use Prim.Native.Nat.{ℕ, _+_, _-_, _≤_, _<_}
 use lib.ListN.{length}
 use Rattle.words.specs.Steps.{stepOf}
 use Rattle.words.specs.declared.Step.{Step}
@@ -13,7 +13,8 @@ use Rattle.rules.specs.Verdict.{Refusal, malformed, not-allowed, not-unified, s
 use Rattle.rules.specs.Machinery.Play.{Play, Performed, goes-on, not-possible, clashes, circular, perform, refusal, passed, stopped, check}
 use Rattle.unification.specs.State.{markAt, literalAt, parentAt}
 use Rattle.tableaux.specs.Leaves.{chain}
-use Rattle.tableaux.specs.Ready.{Ready, Stands}
+use Rattle.tableaux.specs.Ready.{Ready, Stands, NotesKept}
+use Rattle.index.specs.Noting.{Indexed}
 use Rattle.engine.specs.Ended.{Ended}
 use Rattle.tableaux.specs.declared.tableau.Place.{Place}
 use Rattle.unification.specs.declared.unify.Meeting.{Meeting}
@@ -49,11 +50,16 @@ statusFor NotAllowed = statusOf not-allowed
 statusFor Clashes = statusOf (not-unified a-clash)
 statusFor Circular = statusOf (not-unified a-circle)
 
+-- the body's literals are noted, where anything may be extended
+abbrev pub NotedFor : ℕ → List ℕ → List ℕ → Type 0
+NotedFor bound f m = 0 < bound → Indexed f (length f - 4) m
+
 -- the tableau goes on at a place
 pub record Moved (f m m′ : List ℕ) (place next : Place) : Type 0 where
   pub ready : Ready f m′ next
   pub steps : next .steps ≡ place .steps + 1
   pub marks : (v : ℕ) → v < 528 → markAt m′ v ≡ markAt m v
+  pub notes : NotesKept m m′
 
 abbrev pub Moves : List ℕ → List ℕ → List ℕ → Place → Judged → Type 0
 Moves f m m′ place (On next) = Moved f m m′ place next

@@ -24,7 +24,9 @@ use Rattle.unification.specs.Good.{wordAt, LiteralStands, Good, Undone}
 use Rattle.tableaux.specs.Leaves.{leafAt, questionsAmong}
 use Rattle.tableaux.specs.Ready.{openLeaves, Ready, Stands, Later, leafOf}
 use Rattle.engine.specs.Performing.{Comes}
-use Rattle.tableaux.specs.Scanning.{Enters, otherSign, extensionAt}
+use Rattle.index.specs.Noting.{keysIn, scansIn, ahead, Linked}
+use Rattle.index.specs.Scanning.{otherSign}
+use Rattle.tableaux.specs.Entering.{Enters, extensionAt}
 use Rattle.engine.specs.declared.search.Ending.{Ending}
 use Rattle.engine.specs.declared.search.Ending.the-variants.{Found, Nothing, Out}
 use Rattle.engine.specs.declared.search.Move.{Move}
@@ -61,6 +63,7 @@ roomAt f m task place = length (openLeaves f m place) + 6 * (task .bound + 1 - c
 pub record Treats (f m : List ℕ) (task : Task) (place : Place) : Type 0 where
   pub asked : Asked f task
   pub ready : Ready f m place
+  pub linked : 0 < task .bound → Linked f (task .body) m 0
 
 -- the leaf's word with the other sign
 abbrev pub Wanted : List ℕ → List ℕ → Place → ℕ → Type 0
@@ -167,6 +170,10 @@ reductionsAt f m place = order.reductions (leafTreated f m place .literal) 1 (le
 
 abbrev pub extensionsAt : List ℕ → List ℕ → Task → Place → List Step
 extensionsAt f m task place = order.extensions (leafTreated f m place .literal) (copiesOf m) 0 (allClauses (tableAt f task))
+
+-- the extensions from a link on
+abbrev pub extensionsAhead : List ℕ → Task → ℕ → ℕ → List Step
+extensionsAhead f task wanted link = map extensionAt (ahead (keysIn f (task .body)) (scansIn f (task .body)) wanted link)
 
 abbrev pub Rowed : List ℕ → List ℕ → List ℕ → Task → Place → ℕ → Searched → List Step → Type 0
 Rowed f m m′ task place budget r steps =

@@ -1,6 +1,7 @@
 // The checker: an offered proof, step by step.
-use tableaux::candidates;
-use tableaux::candidates::Candidate;
+use index::entries;
+use index::entries::Candidate;
+use index::notes;
 use tableaux::tableau;
 use tableaux::tableau::Place;
 use tableaux::tableau::Taken;
@@ -15,8 +16,8 @@ ghost use Rattle.words.specs.Steps.{stepOf};
 ghost use Rattle.table.specs.File.{judge};
 ghost use Rattle.unification.specs.Good.{wordAt};
 ghost use Rattle.tableaux.specs.Ready.{Ready, leafOf};
-ghost use Rattle.tableaux.specs.Scanning.{otherSign};
-ghost use Rattle.engine.specs.Checking.{Upward, lineage, aboveOf, judgedBy, statusFor, Checked, Decided};
+ghost use Rattle.index.specs.Scanning.{otherSign};
+ghost use Rattle.engine.specs.Checking.{Upward, lineage, aboveOf, judgedBy, statusFor, NotedFor, Checked, Decided};
 
 // The checker's statuses.
 pub const MALFORMED: u32 = 12;
@@ -73,7 +74,7 @@ fn wanted(file: &[u32], work: &[u32], place: Place) -> u32
     requires { ⌜ Ready (now file) (now work) place × (0 < place .head) ⌝ }
     ensures { λ r. ⌜ r ≡ otherSign (wordAt (now (file .entry)) (now (work .entry)) (leafOf (now (work .entry)) place)) ⌝ }
 {
-    candidates::other_sign(memory::word_at(file, work, tableau::literal_of(work, place.head)))
+    entries::other_sign(memory::word_at(file, work, tableau::literal_of(work, place.head)))
 }
 
 fn by_meeting(taken: Taken) -> Judged
@@ -115,6 +116,17 @@ fn body_of(file: &[u32]) -> u32
     (file.len() - 4) as u32
 }
 
+// The literals of the body are noted, unless nothing may be extended.
+fn prepare(file: &[u32], work: &mut [u32], bound: u32)
+    requires { ⌜ (length (now work) ≡ 16384) × (judge (now file) .status ≡ 0) ⌝ }
+    ensures { λ _. ⌜ NotedFor bound (now (file .entry)) (now (work .exit)) ⌝ }
+{
+    if bound == 0 {
+        return;
+    }
+    notes::note(file, work, body_of(file));
+}
+
 fn extension(
     file: &[u32],
     work: &mut [u32],
@@ -124,7 +136,7 @@ fn extension(
     clause: u32,
     literal: u32,
 ) -> Judged
-    requires { ⌜ Ready (now file) (now work) place × (judge (now file) .status ≡ 0) × (bound ≤ 32) × (stepOf word ≡ Step.Extension clause literal) ⌝ }
+    requires { ⌜ Ready (now file) (now work) place × (judge (now file) .status ≡ 0) × (bound ≤ 32) × (stepOf word ≡ Step.Extension clause literal) × NotedFor bound (now file) (now work) ⌝ }
     ensures { λ r. ⌜ Checked (now (file .entry)) (now (work .entry)) (now (work .exit)) bound place word r ⌝ }
 {
     if place.head == 0 {
@@ -133,7 +145,7 @@ fn extension(
     if bound < work[memory::COPIES] {
         return Judged::NotAllowed;
     }
-    let found = candidates::entry(file, body_of(file), clause, literal);
+    let found = notes::entry(work, clause, literal);
     let Candidate::Entry(entry) = found else {
         return Judged::NotAllowed;
     };
@@ -146,7 +158,7 @@ fn extension(
 }
 
 fn step_taken(file: &[u32], work: &mut [u32], bound: u32, place: Place, word: u32) -> Judged
-    requires { ⌜ Ready (now file) (now work) place × (judge (now file) .status ≡ 0) × (bound ≤ 32) ⌝ }
+    requires { ⌜ Ready (now file) (now work) place × (judge (now file) .status ≡ 0) × (bound ≤ 32) × NotedFor bound (now file) (now work) ⌝ }
     ensures { λ r. ⌜ Checked (now (file .entry)) (now (work .entry)) (now (work .exit)) bound place word r ⌝ }
 {
     let step = words::steps::decode(word);
@@ -182,6 +194,7 @@ pub fn run(file: &[u32], work: &mut [u32], question: u32, bound: u32, offered: &
     requires { ⌜ (length (now work) ≡ 16384) × (judge (now file) .status ≡ 0) × (question ≡ judge (now file) .question) × (bound ≤ 32) ⌝ }
     ensures { λ r. ⌜ Decided (now (file .entry)) (now (work .exit)) question bound (now (offered .entry)) r ⌝ }
 {
+    prepare(file, work, bound);
     let mut place = tableau::begin(file, work, question);
     let mut i = 0;
     while i < offered.len() {

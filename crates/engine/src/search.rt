@@ -1,7 +1,8 @@
 // Depth-first search in the stated order.
-use tableaux::candidates;
-use tableaux::candidates::Candidate;
-use tableaux::candidates::Scan;
+use index::entries;
+use index::entries::Scan;
+use index::links;
+use index::notes;
 use tableaux::tableau;
 use tableaux::tableau::Place;
 use tableaux::tableau::Taken;
@@ -14,7 +15,8 @@ use words::steps;
 ghost use mathlib.Core.List.{List};
 ghost use mathlib.Core.Path.{_≡_};
 ghost use Prim.Native.Nat.{ℕ, _≤_, _<_, _-_};
-ghost use lib.ListN.{length};
+ghost use lib.ListN.{length, take};
+ghost use Rattle.index.specs.Noting.{Few, Linked};
 ghost use Rattle.table.specs.File.{judge};
 ghost use Rattle.unification.specs.State.{copiesOf, countOf};
 ghost use Rattle.unification.specs.Good.{Good};
@@ -158,25 +160,23 @@ fn extensions(
     requires { ⌜ Treats (now file) (now work) task place × (0 < place .head) × Wanted (now file) (now work) place wanted × (copiesOf (now work) ≤ task .bound) ⌝ }
     ensures { λ r. ⌜ Rowed (now (file .entry)) (now (work .entry)) (now (work .exit)) task place tries r (extensionsAt (now (file .entry)) (now (work .entry)) task place) ⌝ }
 {
-    let body = task.body;
-    let mut scan = candidates::beginning();
+    let mut link = links::first(file, work, wanted);
     let mut left = tries;
-    loop {
-        let candidate = candidates::next(file, body, wanted, scan);
-        let Candidate::Entry(entry) = candidate else {
-            return without(Ending::Nothing, left);
-        };
+    while link != 0 {
+        let literal = link - 1;
         if left == 0 {
             return without(Ending::Out, left);
         }
+        let entry = notes::unpacked(work, literal);
+        link = links::next(work, literal);
         let tried = attempt(file, work, task, place, Move::Enter(entry), left - 1);
         let ending = tried.ending;
         let Ending::Nothing = ending else {
             return tried;
         };
         left = tried.left;
-        scan = candidates::past(entry, wanted);
     }
+    without(Ending::Nothing, left)
 }
 
 // The leftmost leaf is treated: its reductions, then its extensions, unless the bound's are used.
@@ -193,7 +193,7 @@ fn treat(file: &[u32], work: &mut [u32], task: Task, place: Place, left: u32) ->
         };
     }
     let word = memory::word_at(file, work, tableau::literal_of(work, head));
-    let wanted = candidates::other_sign(word);
+    let wanted = entries::other_sign(word);
     let reduced = reductions(file, work, task, place, wanted, left);
     let ending = reduced.ending;
     let Ending::Nothing = ending else {
@@ -205,13 +205,26 @@ fn treat(file: &[u32], work: &mut [u32], task: Task, place: Place, left: u32) ->
     extensions(file, work, task, place, wanted, reduced.left)
 }
 
+// The literals of the body are noted and linked, unless nothing may be extended.
+fn prepare(file: &[u32], work: &mut [u32], body: u32, bound: u32)
+    requires { ⌜ (length (now work) ≡ 16384) × (body ≤ length (now file)) × (body ≤ 16000) × Few (take body (now file)) ⌝ }
+    ensures { λ _. ⌜ (0 < bound → Linked (now (file .entry)) body (now (work .exit)) 0) ⌝ }
+{
+    if bound == 0 {
+        return;
+    }
+    notes::note(file, work, body);
+    links::link(file, work);
+}
+
 // A closed tableau for the question within the bound, if the budget lasts; its steps stand among the work words, and no variable is numbered yet.
 pub fn find(file: &[u32], work: &mut [u32], question: u32, bound: u32, budget: u32) -> Searched
     requires { ⌜ (length (now work) ≡ 16384) × (judge (now file) .status ≡ 0) × (question ≡ judge (now file) .question) × (bound ≤ 32) ⌝ }
     ensures { λ r. ⌜ Ends (r .ending) (now (file .entry)) (now (work .exit)) question bound budget r ⌝ }
 {
-    let place = tableau::begin(file, work, question);
     let body = (file.len() - 4) as u32;
+    prepare(file, work, body, bound);
+    let place = tableau::begin(file, work, question);
     let task = Task { body, bound };
     treat(file, work, task, place, budget)
 }

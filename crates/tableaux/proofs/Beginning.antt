@@ -1,10 +1,10 @@
 -- The start on the work words: cleared, with one copy of the question, its literals the open leaves.
 use mathlib.Core.Path.{_≡_, refl, sym, ap, ap₂, _∙_}
 use mathlib.Core.List.{List, [], _++_, map, append-nil}
-use Prim.Native.Nat.{ℕ, _+_, _*_, _≤_, _<_}
+use Prim.Native.Nat.{ℕ, _+_, _*_, _-_, _≤_, _<_}
 use native.Mathlib.Omega.{arith}
 use borrow.Author.Tests.{eq-eqb, ne-eqb}
-use lib.ListN.{length, take, drop, getD, set, replicate, length-set, length-append, length-replicate, length-drop, getD-replicate, List·getD-append}
+use lib.ListN.{length, take, drop, getD, set, replicate, length-set}
 use lib.Seq.{getD-set-same, getD-set-other}
 use Rattle.words.specs.Fields.{literalsOf}
 use Rattle.rules.specs.Tableau as tableau
@@ -13,32 +13,47 @@ use Rattle.table.specs.Decode.{clauseOf}
 use Rattle.unification.specs.State.{startAt, copiesOf, countOf, ownWords, ClauseAt, literalAtReference, bindingsOf}
 use Rattle.unification.specs.Good.{Good}
 use Rattle.tableaux.specs.Leaves.{chain, leavesFrom, questionsAmong, hung}
-use Rattle.tableaux.specs.Ready.{Noted, Stands, openLeaves, startLeaves, Begun, hangingAt, headAfter}
+use Rattle.tableaux.specs.Ready.{Noted, Stands, NotesKept, openLeaves, startLeaves, Begun, hangingAt, headAfter}
 use Rattle.tableaux.specs.declared.tableau.Place.{Place}
 use Rattle.unification.proofs.Bound.{Clauses}
+use Rattle.index.proofs.Cleared.{cleared-below, cleared-zero, cleared-length, cleared-above}
 use Rattle.tableaux.proofs.Copies.{start-good}
 use Rattle.tableaux.proofs.Literals.{clause-some, clause-few, hanging-all, copy-all}
 use Rattle.tableaux.proofs.Hung.{hung-copies, hung-start, hung-carries, hung-good, hung-noted, hung-open, hung-high}
 use Rattle.tableaux.proofs.Extending.{hang-length}
 
--- the first words cleared
-module _ (m : List ℕ) (count : ℕ) {m₀ : List ℕ} {size : ℕ} (inside : count ≤ size) (sized : length m ≡ size) (e : m₀ ≡ take 0 m ++ replicate count 0 ++ drop (0 + count) m) where
-  pub cleared-length : length m₀ ≡ size
-  cleared-length =
-      ap length e ∙ length-append (replicate count 0) (drop (0 + count) m) ∙ rw (length-replicate, length-drop, sized) (omega arith)
+-- the words before the leaves cleared, and those after the steps
+pub first-size : (m : List ℕ) {m₁ : List ℕ} → length m ≡ 16384 → m₁ ≡ take 0 m ++ replicate 1216 0 ++ drop (0 + 1216) m → length m₁ ≡ 16384
+first-size m sized e₁ = cleared-length m 0 1216 (omega arith) e₁ ∙ sized
 
-  pub cleared-zero : (i : ℕ) → i < count → getD m₀ i 0 ≡ 0
-  cleared-zero i h =
-      ap (λ (l : List ℕ). getD l i 0) e
-      ∙ List·getD-append (replicate count 0) (drop (0 + count) m) 0 i (rw length-replicate h)
-      ∙ getD-replicate count i 0 0 h
+module _ (m : List ℕ) {m₁ m₀ : List ℕ} (sized : length m ≡ 16384) (e₁ : m₁ ≡ take 0 m ++ replicate 1216 0 ++ drop (0 + 1216) m) (e₀ : m₀ ≡ take 2240 m₁ ++ replicate 576 0 ++ drop (2240 + 576) m₁) where
+  inside : 2240 + 576 ≤ length m₁
+  inside = omega (arith, first-size m sized e₁)
 
-module _ {f : List ℕ} {question : ℕ} (m₀ : List ℕ) (size : length m₀ ≡ 16384) (zeros : (i : ℕ) → i < 2816 → getD m₀ i 0 ≡ 0) (clause : ClauseAt f question) where
+  pub cleared-size : length m₀ ≡ 16384
+  cleared-size = cleared-length m₁ 2240 576 inside e₀ ∙ first-size m sized e₁
+
+  pub cleared-low : (i : ℕ) → i < 1216 → getD m₀ i 0 ≡ 0
+  cleared-low i h =
+      let same : i ≡ 0 + i = omega arith in
+      cleared-below m₁ 2240 576 inside e₀ i (omega arith)
+      ∙ ap (λ (k : ℕ). getD m₁ k 0) same
+      ∙ cleared-zero m 0 1216 (omega arith) e₁ i h
+
+  pub cleared-high : (i : ℕ) → 2240 ≤ i → i < 2816 → getD m₀ i 0 ≡ 0
+  cleared-high i l h =
+      let same : i ≡ 2240 + (i - 2240) = omega arith in
+      ap (λ (k : ℕ). getD m₀ k 0) same ∙ cleared-zero m₁ 2240 576 inside e₀ (i - 2240) (omega arith)
+
+  pub cleared-notes : NotesKept m m₀
+  cleared-notes i a b = cleared-above m₁ 2240 576 inside e₀ i (omega arith) ∙ cleared-above m 0 1216 (omega arith) e₁ i (omega arith)
+
+module _ {f : List ℕ} {question : ℕ} (m₀ : List ℕ) (size : length m₀ ≡ 16384) (low : (i : ℕ) → i < 1216 → getD m₀ i 0 ≡ 0) (high : (i : ℕ) → 2240 ≤ i → i < 2816 → getD m₀ i 0 ≡ 0) (clause : ClauseAt f question) where
   abbrev one : List ℕ
   one = set (set m₀ 0 question) 33 1
 
-  one-other : (i : ℕ) → (i ≡ 33 → ⊥) → (i ≡ 0 → ⊥) → i < 2816 → getD one i 0 ≡ 0
-  one-other i a b l = getD-set-other (set m₀ 0 question) 33 i 1 0 a ∙ getD-set-other m₀ 0 i question 0 b ∙ zeros i l
+  one-other : (i : ℕ) → (i ≡ 33 → ⊥) → (i ≡ 0 → ⊥) → getD one i 0 ≡ getD m₀ i 0
+  one-other i a b = getD-set-other (set m₀ 0 question) 33 i 1 0 a ∙ getD-set-other m₀ 0 i question 0 b
 
   one-copies : copiesOf one ≡ 1
   one-copies = getD-set-same (set m₀ 0 question) 33 1 0 (simp length-set (omega arith))
@@ -48,7 +63,7 @@ module _ {f : List ℕ} {question : ℕ} (m₀ : List ℕ) (size : length m₀ �
       getD-set-other (set m₀ 0 question) 33 0 1 0 (λ e. omega arith) ∙ getD-set-same m₀ 0 question 0 (omega arith)
 
   one-count : countOf one ≡ 0
-  one-count = one-other 34 (λ e. omega arith) (λ e. omega arith) (omega arith)
+  one-count = one-other 34 (λ e. omega arith) (λ e. omega arith) ∙ low 34 (omega arith)
 
   clauses : Clauses f one
   clauses = record {
@@ -57,7 +72,7 @@ module _ {f : List ℕ} {question : ℕ} (m₀ : List ℕ) (size : length m₀ �
   }
 
   one-good : Good f one
-  one-good = start-good (simp length-set size) clauses one-count (λ v l. one-other (640 + v) (λ e. omega arith) (λ e. omega arith) (omega arith))
+  one-good = start-good (simp length-set size) clauses one-count (λ v l. one-other (640 + v) (λ e. omega arith) (λ e. omega arith) ∙ low (640 + v) (omega arith))
 
   none-noted : Noted f one 0
   none-noted = record { stands = λ c l. absurd (omega arith); up = λ c l. absurd (omega arith); right = λ c l. absurd (omega arith) }
@@ -118,8 +133,14 @@ module _ {f : List ℕ} {question : ℕ} (m₀ : List ℕ) (size : length m₀ �
       start = after-start;
       leaves = open-leaves;
       steps = refl;
-      unnumbered = λ v l. hung-high f one 0 0 0 0 question 0 room (2240 + v) (omega arith) ∙ one-other (2240 + v) (λ z. omega arith) (λ z. omega arith) (omega arith);
+      unnumbered = λ v l. hung-high f one 0 0 0 0 question 0 room (2240 + v) (omega arith) ∙ one-other (2240 + v) (λ z. omega arith) (λ z. omega arith) ∙ high (2240 + v) (omega arith) (omega arith);
     }
+
+    pub notes-as : {m′ : List ℕ} → m′ ≡ hung 0 0 0 0 (hangingAt f question 0) one → NotesKept m₀ m′
+    notes-as em i a b =
+        ap (λ (l : List ℕ). getD l i 0) em
+        ∙ hung-high f one 0 0 0 0 question 0 room i (omega arith)
+        ∙ one-other i (λ z. omega arith) (λ z. omega arith)
 
     pub begun-as : {m′ : List ℕ} → m′ ≡ hung 0 0 0 0 (hangingAt f question 0) one → Begun f m′ question place
     begun-as em = rw em begun

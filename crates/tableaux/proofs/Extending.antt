@@ -138,6 +138,7 @@ module _ {f m : List ℕ} {place : Place} {start offset : ℕ} (x : Extensible f
         nexts = λ c l. low (1728 + c) (omega arith) (omega arith);
         steps = λ i l. begun-other (1984 + i) (λ e. omega arith) (λ e. omega (arith, x .copies)) (λ e. omega arith);
         marks = λ v l. begun-other (2240 + v) (λ e. omega (arith, few)) (λ e. omega (arith, x .copies)) (λ e. omega arith);
+        notes = λ i a b. begun-other i (λ e. omega (arith, few)) (λ e. omega (arith, x .copies)) (λ e. omega arith);
       }
 
   leaf-stands : LiteralStands f m (leafOf m place)

@@ -108,6 +108,7 @@ module _ (f m : List ℕ) (copy parent rest leaves start entered : ℕ) where
             nexts = λ c l. same .next c (omega arith);
             steps = λ i l. hung-high (1984 + i) (omega arith);
             marks = λ v l. hung-high (2240 + v) (omega arith);
+            notes = λ i a b. hung-high i (omega arith);
           }
 
       module _ (noted : Noted f m leaves) (made : copy < copiesOf m) (begins : startAt m copy ≡ start) (clause : ClauseAt f start) (up : parent ≤ leaves) (right : rest ≤ leaves) where

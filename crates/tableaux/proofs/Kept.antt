@@ -71,6 +71,7 @@ later-then {m} {m′} {m″} k l = record {
   nexts = λ c h. l .nexts c h ∙ k .nexts c h;
   steps = λ i h. l .steps i h ∙ k .steps i h;
   marks = λ v h. l .marks v h ∙ k .marks v h;
+  notes = λ i a b. l .notes i a b ∙ k .notes i a b;
 }
 
 -- more may be bound, and nothing else changes
@@ -86,4 +87,5 @@ grown-later {f} {m} {m′} place h leaves steps g = record {
   nexts = λ c l. g .kept .leaves .words (1728 + c) (omega arith) (omega arith);
   steps = λ i l. g .kept .leaves .words (1984 + i) (omega arith) (omega arith);
   marks = λ v l. g .kept .leaves .words (2240 + v) (omega arith) (omega arith);
+  notes = λ i a b. g .kept .leaves .words i (omega arith) b;
 }

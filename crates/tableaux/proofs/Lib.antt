@@ -1,4 +1,3 @@
-pub mod Scans
 pub mod Copies
 pub mod Chains
 pub mod Hanging

@@ -61,6 +61,7 @@ module _ (f m : List ℕ) (s step : ℕ) where
       nexts = λ c l. step-other (1728 + c) (λ e. omega arith);
       steps = λ i l. step-other (1984 + i) (λ e. omega arith);
       marks = λ v l. step-other (2240 + v) (λ e. omega arith);
+      notes = λ i a b. step-other i (λ e. omega arith);
     }
 
 module _ {f m : List ℕ} {place : Place} {ancestor : ℕ} (r : Reducible f m place ancestor) (step : ℕ) where

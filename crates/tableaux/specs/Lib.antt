@@ -1,3 +1,3 @@
-pub mod Scanning
 pub mod Leaves
+pub mod Entering
 pub mod Ready

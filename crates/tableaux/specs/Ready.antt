@@ -45,6 +45,10 @@ pub record Stands (f m : List ℕ) (question : ℕ) (place : Place) (x : Tableau
   pub extensions : suc (x .extensions) ≡ copiesOf m
   pub questions : x .questions ≡ questionsAmong m question (copiesOf m)
 
+-- the notes of the body's literals are as they were
+abbrev pub NotesKept : List ℕ → List ℕ → Type 0
+NotesKept m m′ = (i : ℕ) → 4095 ≤ i → i < 16384 → getD m′ i 0 ≡ getD m i 0
+
 -- what was there at an earlier moment, at a place, is still there
 pub record Later (m m′ : List ℕ) (place : Place) : Type 0 where
   pub more : countOf m ≤ countOf m′
@@ -57,6 +61,7 @@ pub record Later (m m′ : List ℕ) (place : Place) : Type 0 where
   pub nexts : (c : ℕ) → c < place .leaves → nextAt m′ c ≡ nextAt m c
   pub steps : (i : ℕ) → i < place .steps → stepAt m′ i ≡ stepAt m i
   pub marks : (v : ℕ) → v < 528 → markAt m′ v ≡ markAt m v
+  pub notes : NotesKept m m′
 
 -- the start
 abbrev pub startLeaves : List ℕ → ℕ → List Leaf

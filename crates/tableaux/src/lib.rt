@@ -1,3 +1,2 @@
-// The tableau on lent words: its leaves, the candidates of a leaf, and the steps on them.
-pub mod candidates;
+// The tableau on lent words: its leaves, and the steps on them.
 pub mod tableau;

@@ -11,7 +11,7 @@ ghost use lib.ListN.{length, drop, getD, set};
 ghost use Rattle.words.specs.Fields.{literalsOf};
 ghost use Rattle.unification.specs.State.{copiesOf, literalAt, parentAt, nextAt, ownWords, ClauseAt};
 ghost use Rattle.tableaux.specs.Leaves.{hangs, hanging, noted, hung};
-ghost use Rattle.tableaux.specs.Ready.{Ready, Begun, Reducible, Reduced, Extensible, Extended, opened, hangingAt, headAfter, hungUnder, placeUnder};
+ghost use Rattle.tableaux.specs.Ready.{Ready, NotesKept, Begun, Reducible, Reduced, Extensible, Extended, opened, hangingAt, headAfter, hungUnder, placeUnder};
 
 // The leftmost open leaf and one, 0 where none is open; the leaves noted, and the steps taken.
 pub struct Place {
@@ -129,12 +129,13 @@ fn literals_at(file: &[u32], start: u32) -> u32
     fields::literals(file[fields::wide(start)])
 }
 
-// The start: a copy of the question, its literals the open leaves.
+// The start: a copy of the question, its literals the open leaves. Leaves and steps are written before they are read, and not cleared.
 pub fn begin(file: &[u32], work: &mut [u32], question: u32) -> Place
     requires { ⌜ (length (now work) ≡ 16384) × ClauseAt (now file) question ⌝ }
-    ensures { λ r. ⌜ Begun (now (file .entry)) (now (work .exit)) question r ⌝ }
+    ensures { λ r. ⌜ Begun (now (file .entry)) (now (work .exit)) question r × NotesKept (now (work .entry)) (now (work .exit)) ⌝ }
 {
-    memory::clear(work, 0, memory::USED);
+    memory::clear(work, 0, memory::LITERAL);
+    memory::clear(work, memory::NUMBERS, memory::USED - memory::NUMBERS);
     work[memory::STARTS] = question;
     work[memory::COPIES] = 1;
     let count = literals_at(file, question);

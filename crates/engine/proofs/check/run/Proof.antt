@@ -18,11 +18,14 @@ Inv-loop file work₀ question bound offered place₀ i₀ work place i = Runnin
 abbrev μ-loop : tie.MeasureT-loop
 μ-loop file work₀ question bound offered place₀ i₀ work place i = length offered - i
 
+prepare-requires : tie.Need-prepare-requires Inv-loop μ-loop
+prepare-requires c κs = search all
+
 begin-requires : tie.Need-begin-requires Inv-loop μ-loop
-begin-requires c κs = search all
+begin-requires c κs = (c .before .before .before .prepare .kept .1 .0 ∙ c .before .before .before .before .before .before .before .before .pre .0, question-clause _ (c .before .before .before .before .before .before .before .before .pre .1) (c .before .before .before .before .before .before .before .before .pre .2))
 
 loop-holds : tie.Need-loop-holds Inv-loop μ-loop
-loop-holds c = search all
+loop-holds c = run-begin _ (c .before .before .before .before .before .before .before .before .before .before .before .pre .1) (c .before .before .before .before .before .before .before .before .before .before .before .pre .2) (c .before .before .begin .ensures .0) (c .before .before .before .before .before .before .prepare .ensures) (c .before .before .begin .ensures .1) _
 
 mul-step-taken : tie.Need-mul-step-taken Inv-loop μ-loop
 mul-step-taken c = search all
@@ -31,7 +34,7 @@ shared-slice-read-step-taken : tie.Need-shared-slice-read-step-taken Inv-loop μ
 shared-slice-read-step-taken c = search all
 
 step-taken-requires : tie.Need-step-taken-requires Inv-loop μ-loop
-step-taken-requires c κs = search all
+step-taken-requires c κs = (c .before .before .before .loop .inv .ready, c .before .before .before .before .before .before .before .before .before .before .before .before .before .before .before .pre .1, c .before .before .before .before .before .before .before .before .before .before .before .before .before .before .before .pre .3, c .before .before .before .loop .inv .noted)
 
 enum-known-judged : tie.Need-enum-known-judged Inv-loop μ-loop
 enum-known-judged c = search all
@@ -40,7 +43,7 @@ status-requires : tie.Need-status-requires Inv-loop μ-loop
 status-requires c κs = search all
 
 same-length : tie.Need-same-length Inv-loop μ-loop
-same-length c = c .before .before .before .before .step-taken .kept .1 .0 ∙ c .before .before .before .before .before .before .before .before .loop .inv .ready .good .size ∙ sym (c .before .before .before .before .before .before .before .before .before .before .before .before .before .before .before .before .pre .0)
+same-length c = c .before .before .before .before .step-taken .kept .1 .0 ∙ c .before .before .before .before .before .before .before .before .loop .inv .ready .good .size ∙ sym (c .before .before .before .before .before .before .before .before .before .before .before .before .before .before .before .before .before .before .before .before .pre .0)
 
 returns : tie.Need-returns Inv-loop μ-loop
 returns c = let k = c .before .match .keys2 in run-refuses (c .before .before .before .before .before .before .before .before .loop .inv) (c .before .before .before .before .before .before .before .loop-test .taken) _ (c .before .before .before .before .step-taken .ensures) (λ next e. miss (1 ∷ 2 ∷ 3 ∷ 4 ∷ []) 0 tt (rw e at k)) (c .status .ensures)
@@ -55,13 +58,13 @@ loop-again : tie.Need-loop-again Inv-loop μ-loop
 loop-again c = search all
 
 same-length-2 : tie.Need-same-length-2 Inv-loop μ-loop
-same-length-2 c = c .before .before .before .loop .inv .ready .good .size ∙ sym (c .before .before .before .before .before .before .before .before .before .before .before .pre .0)
+same-length-2 c = c .before .before .before .loop .inv .ready .good .size ∙ sym (c .before .before .before .before .before .before .before .before .before .before .before .before .before .before .before .pre .0)
 
 returns-2 : tie.Need-returns-2 Inv-loop μ-loop
 returns-2 c = search all
 
 same-length-3 : tie.Need-same-length-3 Inv-loop μ-loop
-same-length-3 c = c .before .before .before .loop .inv .ready .good .size ∙ sym (c .before .before .before .before .before .before .before .before .before .before .before .pre .0)
+same-length-3 c = c .before .before .before .loop .inv .ready .good .size ∙ sym (c .before .before .before .before .before .before .before .before .before .before .before .before .before .before .before .pre .0)
 
 returns-3 : tie.Need-returns-3 Inv-loop μ-loop
 returns-3 c = search all
@@ -72,6 +75,7 @@ run-spec =
     (tie.spec
     Inv-loop
     μ-loop
+    prepare-requires
     begin-requires
     loop-holds
     mul-step-taken

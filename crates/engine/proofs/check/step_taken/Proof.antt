@@ -11,7 +11,7 @@ step-taken-spec =
     (λ c. search needs)
     (λ c κs. (c .before .before .before .before .before .before .before .pre .0, cc))
     (λ c. search needs)
-    (λ c κs. (c .before .before .before .before .before .before .before .pre .0, c .before .before .before .before .before .before .before .pre .1, c .before .before .before .before .before .before .before .pre .2, cc))
+    (λ c κs. (c .before .before .before .before .before .before .before .pre .0, c .before .before .before .before .before .before .before .pre .1, c .before .before .before .before .before .before .before .pre .2, cc, c .before .before .before .before .before .before .before .pre .3))
     (λ c. search needs)
     (λ c. search needs)
     (λ c. c .before .before .reduction .ensures _)

@@ -4,14 +4,12 @@ use borrow.Author.Needs.{needs}
 use borrow.Fn.Kinds.{In}
 use borrow.Fn.PlainCycle.{Measures, is, falls, and}
 use denote.Enum.Declared.{tagOf, declared}
-use lib.ListN.{length, take}
+use lib.ListN.{take}
 use mathlib.Core.Logic.{_⊎_, inl, inr}
-use mathlib.Core.Path.{_≡_, refl, sym, subst, _∙_}
+use mathlib.Core.Path.{_≡_, refl, sym, _∙_}
 use native.Mathlib.Omega.{arith}
-use Prim.Native.Nat.{ℕ, _+_, _*_, _<_}
-use Rattle.tableaux.specs.Scanning.{extensionsFrom, Standing, IsNext}
-use Rattle.engine.specs.Searching.{roomAt, reductionsAt, extensionsAt}
-use Rattle.tableaux.specs.declared.candidates.Scan.{Scan}
+use Prim.Native.Nat.{ℕ, _+_, _*_, _-_, _%_, _<_}
+use Rattle.engine.specs.Searching.{roomAt, reductionsAt, extensionsAt, extensionsAhead}
 use Rattle.engine.specs.declared.search.Ending.{Ending}
 use Rattle.engine.specs.declared.search.Ending.the-variants.{Found, Nothing, Out}
 use Rattle.engine.specs.declared.search.Move.the-variants.{Reduce, Enter}
@@ -19,11 +17,10 @@ use Rattle.unification.specs.declared.unify.Meeting.{Meeting}
 use Rattle.unification.specs.declared.unify.Meeting.the-variants.{Made, Clash, Circle}
 use Rattle.engine.proofs.search.Ending.{enum as ending}
 use Rattle.unification.proofs.unify.Meeting.{enum as meeting}
-use Rattle.engine.proofs.Entries.{next-onward}
 use Rattle.engine.proofs.Rows.{room-again, treats-again, Rowing, rowing-by, rowing-out, rowing-ended, rowing-on}
 use Rattle.engine.proofs.Attempts.{attempt-restores, attempt-failed, attempt-treats, attempt-falls, attempt-ended, attempt-good-below, attempt-restores-below, attempt-none}
 use Rattle.engine.proofs.Climbs.{Climbing, climbs, climb-begin, climb-row, climb-end, climb-small, climb-few, climb-falls, climb-inside, climb-on, climb-past, climb-at, climb-against}
-use Rattle.engine.proofs.Treating.{treat-closed, treat-small, treat-inside, treat-wanted, treat-ended, treat-again, treat-room, treat-wanted-again, treat-used, treat-extended, scan-begin, scan-row, scan-end, scan-next, scan-allows, scan-small, scan-less}
+use Rattle.engine.proofs.Treating.{treat-closed, treat-small, treat-inside, treat-wanted, treat-ended, treat-again, treat-room, treat-wanted-again, treat-used, treat-extended, linked, link-begin, link-row, link-end, link-low, link-unpacks, link-leads, link-less, link-next, link-allows}
 use Rattle.engine.proofs.search.attempt.Reads as attempt
 use Rattle.engine.proofs.search.attempt.Kinds as attempt-kinds
 use Rattle.engine.proofs.search.+attempt+extensions+reductions+treat.Lts-attempt as attempt-lts
@@ -36,10 +33,11 @@ use Rattle.engine.proofs.search.+attempt+extensions+reductions+treat.Lt
 use Rattle.engine.proofs.search.treat.Reads as treat
 use Rattle.engine.proofs.search.treat.Kinds as treat-kinds
 use Rattle.engine.proofs.search.+attempt+extensions+reductions+treat.Lts-treat as treat-lts
-use Rattle.tableaux.proofs.candidates.beginning.Reads as beginning
-use Rattle.tableaux.proofs.candidates.next.Reads as next
-use Rattle.tableaux.proofs.candidates.other_sign.Reads as other-sign
-use Rattle.tableaux.proofs.candidates.past.Reads as past
+use Rattle.index.proofs.entries.other_sign.Reads as other-sign
+use Rattle.index.proofs.links.first.Reads as first
+use Rattle.index.proofs.links.next.Reads as next
+use Rattle.index.proofs.notes.unpacked.Reads as unpacked
+use Rattle.index.proofs.Reached.{Leads}
 use Rattle.unification.proofs.memory.word_at.Reads as word-at
 use Rattle.engine.proofs.search.restore.Reads as restore
 use Rattle.engine.proofs.search.take.Reads as taking
@@ -90,7 +88,7 @@ told-attempt t = (taking.Asked, taking.Learnt, restore.Asked, restore.Learnt, wi
 
 abbrev told-extensions : ℕ → extensions-lts.Claims
 told-extensions t =
-    (beginning.Asked, beginning.Learnt, next.Asked, next.Learnt, without.Asked, without.Learnt, attempt-below t, attempt.Post, past.Asked, past.Learnt)
+    (first.Asked, first.Learnt, without.Asked, without.Learnt, unpacked.Asked, unpacked.Learnt, next.Asked, next.Learnt, attempt-below t, attempt.Post)
 
 abbrev told-reductions : ℕ → reductions-lts.Claims
 told-reductions t =
@@ -101,12 +99,12 @@ told-treat t =
     (literal-of.Asked, literal-of.Learnt, word-at.Asked, word-at.Learnt, other-sign.Asked, other-sign.Learnt, reductions-below t, reductions.Post, extensions-below t, extensions.Post)
 
 abbrev Inv-extensions : extensions-lts.InvT-loop
-Inv-extensions file work₀ task place wanted tries body scan₀ left₀ work scan left =
-    Standing (take (task .body) file) scan
-    × Rowing file work₀ work task place tries left (extensionsAt file work₀ task place) (extensionsFrom (take (task .body) file) wanted scan)
+Inv-extensions file work₀ task place wanted tries link₀ left₀ work link left =
+    Leads file (task .body) wanted link
+    × Rowing file work₀ work task place tries left (extensionsAt file work₀ task place) (extensionsAhead file task wanted link)
 
-abbrev μ-scan : extensions-lts.MeasureT-loop
-μ-scan file work₀ task place wanted tries body scan₀ left₀ work scan left = length (extensionsFrom (take (task .body) file) wanted scan)
+abbrev μ-link : extensions-lts.MeasureT-loop
+μ-link file work₀ task place wanted tries link₀ left₀ work link left = (4096 - link) % 4096
 
 abbrev Inv-reductions : reductions-lts.InvT-loop
 Inv-reductions file work₀ task place wanted tries ancestor₀ height₀ left₀ work ancestor height left =
@@ -160,26 +158,25 @@ pub +attempt+extensions+reductions+treat-spec : {M : Type 1} → statement M
     (extensions-at t)
     extensions.Post
     Inv-extensions
-    μ-scan
-    (λ c κs. search needs)
-    (λ c. (scan-begin (c .before .before .before .pre .1 .0) (c .before .before .before .pre .1 .1) (c .before .before .before .pre .1 .2) (c .beginning .ensures), scan-row (c .before .before .before .pre .1 .0) (c .before .before .before .pre .1 .1) (c .before .before .before .pre .1 .2) (c .beginning .ensures) (c .before .before .before .args .tries)))
-    (λ c κs. (c .before .before .before .before .pre .1 .0 .asked .fits, c .loop .inv .0))
-    (λ c. search needs)
+    μ-link
+    (λ c κs. (_, linked (c .before .before .before .pre .1 .0) (c .before .before .before .pre .1 .1) (c .before .before .before .pre .1 .3)))
+    (λ c. (link-begin (c .before .before .before .before .pre .1 .0) (c .before .before .before .before .pre .1 .1) (c .before .before .before .before .pre .1 .3) (c .before .before .before .before .pre .1 .2) (c .first .ensures _ (linked (c .before .before .before .before .pre .1 .0) (c .before .before .before .before .pre .1 .1) (c .before .before .before .before .pre .1 .3))), link-row (c .before .before .before .before .pre .1 .0) (c .before .before .before .before .pre .1 .1) (c .before .before .before .before .pre .1 .3) (c .before .before .before .before .pre .1 .2) (c .first .ensures _ (linked (c .before .before .before .before .pre .1 .0) (c .before .before .before .before .pre .1 .1) (c .before .before .before .before .pre .1 .3))) (c .before .before .before .before .args .tries)))
     (λ c. search needs)
     (λ c κs. search needs)
-    (λ c. c .before .before .before .before .loop .inv .1 .again .good .size ∙ sym (c .before .before .before .before .before .before .before .before .pre .1 .0 .ready .good .size))
-    (λ c. scan-end (c .before .before .before .before .before .before .before .before .pre .1 .0) (c .before .before .before .before .before .before .before .before .pre .1 .1) (c .before .before .before .before .before .before .before .before .pre .1 .2) (c .before .before .before .before .loop .scan) (c .before .before .before .before .loop .inv .1) (subst (IsNext (take (c .before .before .before .before .before .before .before .before .args .task .body) (c .before .before .before .before .before .before .before .before .args .file .now)) (c .before .before .before .before .before .before .before .before .args .wanted) (c .before .before .before .before .loop .scan)) (c .before .enum-told .given .1) (c .before .before .before .next .ensures)) (c .without .ensures))
-    (λ c κs. search needs)
-    (λ c. c .before .before .before .before .before .before .loop .inv .1 .again .good .size ∙ sym (c .before .before .before .before .before .before .before .before .before .before .pre .1 .0 .ready .good .size))
-    (λ c. rowing-out (c .before .before .before .before .before .before .before .before .before .before .pre .1 .0) (scan-next (c .before .before .before .before .before .before .before .before .before .before .pre .1 .0) (c .before .before .before .before .before .before .before .before .before .before .pre .1 .1) (c .before .before .before .before .before .before .before .before .before .before .pre .1 .2) (c .before .before .before .before .before .before .loop .scan) (c .before .before .before .before .before .before .loop .inv .1) (subst (IsNext (take (c .before .before .before .before .before .before .before .before .before .before .args .task .body) (c .before .before .before .before .before .before .before .before .before .before .args .file .now)) (c .before .before .before .before .before .before .before .before .before .before .args .wanted) (c .before .before .before .before .before .before .loop .scan)) (c .before .before .before .candidate .given .1) (c .before .before .before .before .before .next .ensures))) (c .before .if1 .taken) (c .without2 .ensures))
+    (λ c. c .before .before .before .loop .inv .1 .again .good .size ∙ sym (c .before .before .before .before .before .before .before .before .pre .1 .0 .ready .good .size))
+    (λ c. rowing-out (c .before .before .before .before .before .before .before .before .pre .1 .0) (link-next (c .before .before .before .before .before .before .before .before .pre .1 .0) (c .before .before .before .before .before .before .before .before .pre .1 .1) (c .before .before .before .before .before .before .before .before .pre .1 .3) (c .before .before .before .before .before .before .before .before .pre .1 .2) (c .before .before .before .loop .link) (c .before .before .before .loop .inv .0) (c .before .before .before .loop .inv .1) (c .before .before .loop-test .taken) refl refl) (c .before .if1 .taken) (c .without .ensures))
+    (λ c κs. link-unpacks (c .before .before .before .before .before .before .before .before .pre .1 .0) (c .before .before .before .before .before .before .before .before .pre .1 .1) (c .before .before .before .before .before .before .before .before .pre .1 .3) (c .before .before .before .before .before .before .before .before .pre .1 .2) (c .before .before .before .loop .link) (c .before .before .before .loop .inv .0) (c .before .before .before .loop .inv .1) (c .before .before .loop-test .taken))
+    (λ c κs. link-low (c .before .before .before .before .before .before .before .before .before .before .pre .1 .0) (c .before .before .before .before .before .before .before .before .before .before .pre .1 .1) (c .before .before .before .before .before .before .before .before .before .before .pre .1 .3) (c .before .before .before .before .before .before .before .before .before .before .pre .1 .2) (c .before .before .before .before .before .loop .link) (c .before .before .before .before .before .loop .inv .0) (c .before .before .before .before .before .loop .inv .1) (c .before .before .before .before .loop-test .taken))
     (λ c. omega arith)
-    (λ c κs. (omega (arith, room-again (c .before .before .before .before .before .before .before .before .before .before .args .task) (c .before .before .before .before .before .before .before .before .before .before .pre .1 .0 .ready) (c .before .before .before .before .before .before .loop .inv .1 .again), c .before .before .before .before .before .before .before .before .before .before .pre .0), (treats-again (c .before .before .before .before .before .before .before .before .before .before .pre .1 .0) (c .before .before .before .before .before .before .loop .inv .1 .again), c .before .before .before .before .before .before .before .before .before .before .pre .1 .1, scan-allows (c .before .before .before .before .before .before .before .before .before .before .pre .1 .0) (c .before .before .before .before .before .before .before .before .before .before .pre .1 .1) (c .before .before .before .before .before .before .before .before .before .before .pre .1 .2) (c .before .before .before .before .before .before .loop .scan) (c .before .before .before .before .before .before .loop .inv .1) (subst (IsNext (take (c .before .before .before .before .before .before .before .before .before .before .args .task .body) (c .before .before .before .before .before .before .before .before .before .before .args .file .now)) (c .before .before .before .before .before .before .before .before .before .before .args .wanted) (c .before .before .before .before .before .before .loop .scan)) (c .before .before .before .candidate .given .1) (c .before .before .before .before .before .next .ensures)) (c .before .before .before .before .before .before .before .before .before .before .pre .1 .3))))
+    (λ c κs. (omega (arith, room-again (c .before .before .before .before .before .before .before .before .before .before .before .before .args .task) (c .before .before .before .before .before .before .before .before .before .before .before .before .pre .1 .0 .ready) (c .before .before .before .before .before .before .before .loop .inv .1 .again), c .before .before .before .before .before .before .before .before .before .before .before .before .pre .0), (treats-again (c .before .before .before .before .before .before .before .before .before .before .before .before .pre .1 .0) (c .before .before .before .before .before .before .before .loop .inv .1 .again), c .before .before .before .before .before .before .before .before .before .before .before .before .pre .1 .1, link-allows (c .before .before .before .before .before .before .before .before .before .before .before .before .pre .1 .0) (c .before .before .before .before .before .before .before .before .before .before .before .before .pre .1 .1) (c .before .before .before .before .before .before .before .before .before .before .before .before .pre .1 .3) (c .before .before .before .before .before .before .before .before .before .before .before .before .pre .1 .2) (c .before .before .before .before .before .before .before .loop .link) (c .before .before .before .before .before .before .before .loop .inv .0) (c .before .before .before .before .before .before .before .loop .inv .1) (c .before .before .before .before .before .before .loop-test .taken) (c .before .next .ensures) (c .before .before .before .unpacked .ensures))))
     (λ c. search needs)
-    (λ c. c .before .before .before .attempt .kept .1 .0 ∙ c .before .before .before .before .before .before .before .before .before .before .loop .inv .1 .again .good .size ∙ sym (c .before .before .before .before .before .before .before .before .before .before .before .before .before .before .pre .1 .0 .ready .good .size))
-    (λ c. rowing-ended (c .before .before .before .before .before .before .before .before .before .before .before .before .before .before .pre .1 .0) (Enter (c .before .before .before .before .before .before .before .candidate .given .0 .0)) (scan-next (c .before .before .before .before .before .before .before .before .before .before .before .before .before .before .pre .1 .0) (c .before .before .before .before .before .before .before .before .before .before .before .before .before .before .pre .1 .1) (c .before .before .before .before .before .before .before .before .before .before .before .before .before .before .pre .1 .2) (c .before .before .before .before .before .before .before .before .before .before .loop .scan) (c .before .before .before .before .before .before .before .before .before .before .loop .inv .1) (subst (IsNext (take (c .before .before .before .before .before .before .before .before .before .before .before .before .before .before .args .task .body) (c .before .before .before .before .before .before .before .before .before .before .before .before .before .before .args .file .now)) (c .before .before .before .before .before .before .before .before .before .before .before .before .before .before .args .wanted) (c .before .before .before .before .before .before .before .before .before .before .loop .scan)) (c .before .before .before .before .before .before .before .candidate .given .1) (c .before .before .before .before .before .before .before .before .before .next .ensures))) (c .before .before .before .before .before .if1 .left) (c .before .before .before .attempt .ensures) (settled (c .before .before .before .attempt .result .ending) (c .match2 .keys2)))
-    (λ c κs. scan-small (c .before .before .before .before .before .before .before .before .before .before .before .before .before .before .before .pre .1 .0) (c .before .before .before .before .before .before .before .before .before .before .before .before .before .before .before .pre .1 .1) (c .before .before .before .before .before .before .before .before .before .before .before .before .before .before .before .pre .1 .2) (c .before .before .before .before .before .before .before .before .before .before .before .loop .scan) (c .before .before .before .before .before .before .before .before .before .before .before .loop .inv .1) (subst (IsNext (take (c .before .before .before .before .before .before .before .before .before .before .before .before .before .before .before .args .task .body) (c .before .before .before .before .before .before .before .before .before .before .before .before .before .before .before .args .file .now)) (c .before .before .before .before .before .before .before .before .before .before .before .before .before .before .before .args .wanted) (c .before .before .before .before .before .before .before .before .before .before .before .loop .scan)) (c .before .before .before .before .before .before .before .before .candidate .given .1) (c .before .before .before .before .before .before .before .before .before .before .next .ensures)))
-    (λ c. scan-less (c .before .before .before .before .before .before .before .before .before .before .before .before .before .before .before .before .pre .1 .0) (c .before .before .before .before .before .before .before .before .before .before .before .before .before .before .before .before .pre .1 .1) (c .before .before .before .before .before .before .before .before .before .before .before .before .before .before .before .before .pre .1 .2) (c .before .before .before .before .before .before .before .before .before .before .before .before .loop .scan) (c .before .before .before .before .before .before .before .before .before .before .before .before .loop .inv .1) (subst (IsNext (take (c .before .before .before .before .before .before .before .before .before .before .before .before .before .before .before .before .args .task .body) (c .before .before .before .before .before .before .before .before .before .before .before .before .before .before .before .before .args .file .now)) (c .before .before .before .before .before .before .before .before .before .before .before .before .before .before .before .before .args .wanted) (c .before .before .before .before .before .before .before .before .before .before .before .before .loop .scan)) (c .before .before .before .before .before .before .before .before .before .candidate .given .1) (c .before .before .before .before .before .before .before .before .before .before .before .next .ensures)) (c .past .ensures))
-    (λ c. (subst (Standing (take (c .before .before .before .before .before .before .before .before .before .before .before .before .before .before .before .before .args .task .body) (c .before .before .before .before .before .before .before .before .before .before .before .before .before .before .before .before .args .file .now))) (sym (c .past .ensures)) (next-onward (subst (IsNext (take (c .before .before .before .before .before .before .before .before .before .before .before .before .before .before .before .before .args .task .body) (c .before .before .before .before .before .before .before .before .before .before .before .before .before .before .before .before .args .file .now)) (c .before .before .before .before .before .before .before .before .before .before .before .before .before .before .before .before .args .wanted) (c .before .before .before .before .before .before .before .before .before .before .before .before .loop .scan)) (c .before .before .before .before .before .before .before .before .before .candidate .given .1) (c .before .before .before .before .before .before .before .before .before .before .before .next .ensures))), subst (λ (s : Scan). Rowing (c .before .before .before .before .before .before .before .before .before .before .before .before .before .before .before .before .args .file .now) (c .before .before .before .before .before .before .before .before .before .before .before .before .before .before .before .before .args .work .now) (c .before .before .before .before .before .attempt .last .1 .0) (c .before .before .before .before .before .before .before .before .before .before .before .before .before .before .before .before .args .task) (c .before .before .before .before .before .before .before .before .before .before .before .before .before .before .before .before .args .place) (c .before .before .before .before .before .before .before .before .before .before .before .before .before .before .before .before .args .tries) (c .before .before .before .before .before .attempt .result .left) (extensionsAt (c .before .before .before .before .before .before .before .before .before .before .before .before .before .before .before .before .args .file .now) (c .before .before .before .before .before .before .before .before .before .before .before .before .before .before .before .before .args .work .now) (c .before .before .before .before .before .before .before .before .before .before .before .before .before .before .before .before .args .task) (c .before .before .before .before .before .before .before .before .before .before .before .before .before .before .before .before .args .place)) (extensionsFrom (take (c .before .before .before .before .before .before .before .before .before .before .before .before .before .before .before .before .args .task .body) (c .before .before .before .before .before .before .before .before .before .before .before .before .before .before .before .before .args .file .now)) (c .before .before .before .before .before .before .before .before .before .before .before .before .before .before .before .before .args .wanted) s)) (sym (c .past .ensures)) (rowing-on (c .before .before .before .before .before .before .before .before .before .before .before .before .before .before .before .before .pre .1 .0) (Enter (c .before .before .before .before .before .before .before .before .before .candidate .given .0 .0)) (scan-next (c .before .before .before .before .before .before .before .before .before .before .before .before .before .before .before .before .pre .1 .0) (c .before .before .before .before .before .before .before .before .before .before .before .before .before .before .before .before .pre .1 .1) (c .before .before .before .before .before .before .before .before .before .before .before .before .before .before .before .before .pre .1 .2) (c .before .before .before .before .before .before .before .before .before .before .before .before .loop .scan) (c .before .before .before .before .before .before .before .before .before .before .before .before .loop .inv .1) (subst (IsNext (take (c .before .before .before .before .before .before .before .before .before .before .before .before .before .before .before .before .args .task .body) (c .before .before .before .before .before .before .before .before .before .before .before .before .before .before .before .before .args .file .now)) (c .before .before .before .before .before .before .before .before .before .before .before .before .before .before .before .before .args .wanted) (c .before .before .before .before .before .before .before .before .before .before .before .before .loop .scan)) (c .before .before .before .before .before .before .before .before .before .candidate .given .1) (c .before .before .before .before .before .before .before .before .before .before .before .next .ensures))) (c .before .before .before .before .before .before .before .if1 .left) (c .before .before .before .before .before .attempt .ensures) (c .before .enum-told2 .given .1)))))
+    (λ c. c .before .before .before .attempt .kept .1 .0 ∙ c .before .before .before .before .before .before .before .before .before .before .before .loop .inv .1 .again .good .size ∙ sym (c .before .before .before .before .before .before .before .before .before .before .before .before .before .before .before .before .pre .1 .0 .ready .good .size))
+    (λ c. rowing-ended (c .before .before .before .before .before .before .before .before .before .before .before .before .before .before .before .before .pre .1 .0) (Enter (c .before .before .before .before .before .before .before .unpacked .result)) (link-next (c .before .before .before .before .before .before .before .before .before .before .before .before .before .before .before .before .pre .1 .0) (c .before .before .before .before .before .before .before .before .before .before .before .before .before .before .before .before .pre .1 .1) (c .before .before .before .before .before .before .before .before .before .before .before .before .before .before .before .before .pre .1 .3) (c .before .before .before .before .before .before .before .before .before .before .before .before .before .before .before .before .pre .1 .2) (c .before .before .before .before .before .before .before .before .before .before .before .loop .link) (c .before .before .before .before .before .before .before .before .before .before .before .loop .inv .0) (c .before .before .before .before .before .before .before .before .before .before .before .loop .inv .1) (c .before .before .before .before .before .before .before .before .before .before .loop-test .taken) (c .before .before .before .before .before .next .ensures) (c .before .before .before .before .before .before .before .unpacked .ensures)) (c .before .before .before .before .before .before .before .before .before .if1 .left) (c .before .before .before .attempt .ensures) (settled (c .before .before .before .attempt .result .ending) (c .match .keys2)))
+    (λ c. link-less (c .before .before .before .before .before .before .before .before .before .before .before .before .before .before .before .before .before .pre .1 .0) (c .before .before .before .before .before .before .before .before .before .before .before .before .before .before .before .before .before .pre .1 .1) (c .before .before .before .before .before .before .before .before .before .before .before .before .before .before .before .before .before .pre .1 .3) (c .before .before .before .before .before .before .before .before .before .before .before .before .before .before .before .before .before .pre .1 .2) (c .before .before .before .before .before .before .before .before .before .before .before .before .loop .link) (c .before .before .before .before .before .before .before .before .before .before .before .before .loop .inv .0) (c .before .before .before .before .before .before .before .before .before .before .before .before .loop .inv .1) (c .before .before .before .before .before .before .before .before .before .before .before .loop-test .taken) (c .before .before .before .before .before .before .next .ensures))
+    (λ c. (link-leads (c .before .before .before .before .before .before .before .before .before .before .before .before .before .before .before .before .before .pre .1 .0) (c .before .before .before .before .before .before .before .before .before .before .before .before .before .before .before .before .before .pre .1 .1) (c .before .before .before .before .before .before .before .before .before .before .before .before .before .before .before .before .before .pre .1 .3) (c .before .before .before .before .before .before .before .before .before .before .before .before .before .before .before .before .before .pre .1 .2) (c .before .before .before .before .before .before .before .before .before .before .before .before .loop .link) (c .before .before .before .before .before .before .before .before .before .before .before .before .loop .inv .0) (c .before .before .before .before .before .before .before .before .before .before .before .before .loop .inv .1) (c .before .before .before .before .before .before .before .before .before .before .before .loop-test .taken) (c .before .before .before .before .before .before .next .ensures), rowing-on (c .before .before .before .before .before .before .before .before .before .before .before .before .before .before .before .before .before .pre .1 .0) (Enter (c .before .before .before .before .before .before .before .before .unpacked .result)) (link-next (c .before .before .before .before .before .before .before .before .before .before .before .before .before .before .before .before .before .pre .1 .0) (c .before .before .before .before .before .before .before .before .before .before .before .before .before .before .before .before .before .pre .1 .1) (c .before .before .before .before .before .before .before .before .before .before .before .before .before .before .before .before .before .pre .1 .3) (c .before .before .before .before .before .before .before .before .before .before .before .before .before .before .before .before .before .pre .1 .2) (c .before .before .before .before .before .before .before .before .before .before .before .before .loop .link) (c .before .before .before .before .before .before .before .before .before .before .before .before .loop .inv .0) (c .before .before .before .before .before .before .before .before .before .before .before .before .loop .inv .1) (c .before .before .before .before .before .before .before .before .before .before .before .loop-test .taken) (c .before .before .before .before .before .before .next .ensures) (c .before .before .before .before .before .before .before .before .unpacked .ensures)) (c .before .before .before .before .before .before .before .before .before .before .if1 .left) (c .before .before .before .before .attempt .ensures) (c .enum-told .given .1)))
+    (λ c κs. search needs)
+    (λ c. c .before .before .loop .inv .1 .again .good .size ∙ sym (c .before .before .before .before .before .before .before .pre .1 .0 .ready .good .size))
+    (λ c. link-end (c .before .before .before .before .before .before .before .pre .1 .0) (c .before .before .before .before .before .before .before .pre .1 .1) (c .before .before .before .before .before .before .before .pre .1 .3) (c .before .before .before .before .before .before .before .pre .1 .2) (c .before .before .loop .link) (c .before .before .loop .inv .0) (c .before .before .loop .inv .1) (omega (arith, c .before .loop-test .left)) (c .without2 .ensures)))
     (λ t. reductions-lts.spec
     (told-reductions t)
     (reductions-at t)
