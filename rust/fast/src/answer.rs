@@ -1,10 +1,10 @@
 //! Counting and writing an answer.
 
-use crate::memory::{FOUND_COPIES, LINKS, SEEN, VARIABLES, Work, at, load, store};
-use crate::play::copy_is_of;
-use crate::read::Accepted;
-use crate::terms::{Reference, equal, follow};
-use crate::words::{NEGATIVE, arity, following, is_function, is_literal};
+use crate::index::{Index, Literal};
+use crate::memory::{LINKS, SEEN, STARTS, Work, at, load, store};
+use crate::tableau::{START, arguments};
+use crate::terms::{Term, application, copy, equal, follow, is_application, place, term_at};
+use crate::words::{NEGATIVE, arity};
 
 pub struct Written {
     pub disjuncts: u32,
@@ -12,33 +12,44 @@ pub struct Written {
 }
 
 /// Writes the answer, if it fits. Nothing is written before it has been counted, up to the buffer's length.
-pub fn write(file: &Accepted, work: &mut Work, buffer: &mut [u32]) -> Option<Written> {
+pub fn write(index: &Index, copies: u32, work: &mut Work, buffer: &mut [u32]) -> Option<Written> {
     let room = buffer.len();
-    let copies = disjuncts(file, work);
-    Walk::over(file, work, copies, room, |_, _| {})?;
-    Walk::over(file, work, copies, room, |place, word| buffer[place] = word)
+    let disjuncts = disjuncts(index, copies, work);
+    let variables = 16 * (copies as usize + 1);
+    work[SEEN..][..variables].fill(0);
+    Walk::over(index, work, disjuncts, room, |_, _| {})?;
+    work[SEEN..][..variables].fill(0);
+    Walk::over(index, work, disjuncts, room, |place, word| buffer[place] = word)
+}
+
+fn question<'a>(index: &'a Index) -> &'a [Literal] {
+    &index.literals[index.clauses[index.clauses.len() - 1] as usize..]
 }
 
 /// The copies of the question that the answer names, a bit each: not those that equal an earlier one in every word.
-fn disjuncts(file: &Accepted, work: &mut Work) -> u64 {
+fn disjuncts(index: &Index, copies: u32, work: &mut Work) -> u64 {
+    let asked = u32::from(question(index)[0].clause);
     let mut disjuncts = 0;
-    for copy in 0..load(work, FOUND_COPIES) {
-        if copy_is_of(work, copy, file.question) {
-            let repeated = (0..copy).any(|earlier| disjuncts >> earlier & 1 == 1 && same(file, work, earlier, copy));
+    for copy in START..=copies {
+        if load(work, STARTS + copy as usize) == asked {
+            let repeated =
+                (START..copy).any(|earlier| disjuncts >> earlier & 1 == 1 && same(index, work, earlier, copy));
             disjuncts |= u64::from(!repeated) << copy;
         }
     }
     disjuncts
 }
 
-fn same(file: &Accepted, work: &mut Work, one: u32, other: u32) -> bool {
-    let Accepted { body, question } = *file;
-    let mut literals = (question + 1..=question + following(at(body, question))).filter(|&at| is_literal(body[at]));
-    literals.all(|literal| equal(body, work, Reference::new(one, literal), Reference::new(other, literal)))
+fn same(index: &Index, work: &mut Work, one: u32, other: u32) -> bool {
+    question(index).iter().all(|literal| {
+        let count = literal.arity as usize;
+        let [one, other] = [one, other].map(|copy| arguments(index, copy, literal));
+        equal(index.body, work, &one[..count], &other[..count])
+    })
 }
 
 struct Walk<'a, Emit> {
-    file: &'a Accepted<'a>,
+    index: &'a Index<'a>,
     work: &'a mut Work,
     room: usize,
     words: usize,
@@ -47,26 +58,16 @@ struct Walk<'a, Emit> {
 }
 
 impl<'a, Emit: FnMut(usize, u32)> Walk<'a, Emit> {
-    /// Gives every word of the answer with its place, unless there are more than the room.
-    fn over(file: &'a Accepted, work: &'a mut Work, copies: u64, room: usize, emit: Emit) -> Option<Written> {
-        work[SEEN..][..VARIABLES].fill(0);
-        let mut walk = Walk { file, work, room, words: 0, variables: 0, emit };
+    /// Gives every word of the answer with its place, unless there are more than the room. No variable has been seen before.
+    fn over(index: &'a Index, work: &'a mut Work, copies: u64, room: usize, emit: Emit) -> Option<Written> {
+        let mut walk = Walk { index, work, room, words: 0, variables: 0, emit };
         for copy in (0..u64::BITS).filter(|&copy| copies >> copy & 1 == 1) {
-            walk.disjunct(copy)?;
-        }
-        Some(Written { disjuncts: copies.count_ones(), words: walk.words })
-    }
-
-    fn disjunct(&mut self, copy: u32) -> Option<()> {
-        let Accepted { body, question } = *self.file;
-        for place in question + 1..=question + following(at(body, question)) {
-            let word = at(body, place);
-            if is_literal(word) {
-                self.push(word & !NEGATIVE)?;
-                self.terms(Reference::new(copy, place + 1), arity(word))?;
+            for literal in question(index) {
+                walk.push(at(index.body, literal.place as usize) & !NEGATIVE)?;
+                walk.terms(application(copy, literal.place as usize + 1), u32::from(literal.arity))?;
             }
         }
-        Some(())
+        Some(Written { disjuncts: copies.count_ones(), words: walk.words })
     }
 
     fn push(&mut self, word: u32) -> Option<()> {
@@ -78,8 +79,8 @@ impl<'a, Emit: FnMut(usize, u32)> Walk<'a, Emit> {
         Some(())
     }
 
-    /// So many terms from here on. Where a variable is bound, the way back is kept, at most once for each variable.
-    fn terms(&mut self, from: Reference, count: u32) -> Option<()> {
+    /// So many terms from this place on. Where a variable is bound, the way back is kept, at most once for each variable.
+    fn terms(&mut self, from: Term, count: u32) -> Option<()> {
         let (mut here, mut owed, mut kept) = (from, count, 0);
         loop {
             while owed == 0 {
@@ -87,26 +88,26 @@ impl<'a, Emit: FnMut(usize, u32)> Walk<'a, Emit> {
                     return Some(());
                 }
                 kept -= 2;
-                here = Reference(load(self.work, LINKS + kept));
+                here = load(self.work, LINKS + kept);
                 owed = load(self.work, LINKS + kept + 1);
             }
             owed -= 1;
-            let end = follow(self.file.body, self.work, here);
-            here = Reference(here.0 + 1);
-            if !is_function(end.word) {
-                let number = self.number(end.slot());
+            let end = follow(self.work, term_at(self.index.body, copy(here), place(here)));
+            here += 1;
+            if !is_application(end) {
+                let number = self.number(end as usize);
                 self.push(number)?;
                 continue;
             }
-            self.push(end.word)?;
-            let inside = Reference(end.reference.0 + 1);
-            if inside == here {
-                owed += arity(end.word);
+            let word = at(self.index.body, place(end));
+            self.push(word)?;
+            if end + 1 == here {
+                owed += arity(word);
             } else {
-                store(self.work, LINKS + kept, here.0);
+                store(self.work, LINKS + kept, here);
                 store(self.work, LINKS + kept + 1, owed);
                 kept += 2;
-                (here, owed) = (inside, arity(end.word));
+                (here, owed) = (end + 1, arity(word));
             }
         }
     }

@@ -2,23 +2,36 @@
 //! as fast as can be, as a mark to measure against.
 
 mod answer;
+mod check;
+mod index;
 mod memory;
-mod play;
 mod read;
+mod search;
+mod tableau;
 mod terms;
 mod words;
 
 use calls::{Engine, Lent};
 use engine::{LARGEST_BOUND, PROOF_WORDS, Report, Status, WORK_WORDS};
-use memory::{FOUND_STEPS, TRIES, Work, load};
-use play::End;
+use index::{Index, Notes};
+use memory::Work;
 use read::{Accepted, accept};
+use search::End;
+use std::cell::RefCell;
 use std::ops::Range;
+use words::following;
+
+thread_local! {
+    static NOTES: RefCell<Notes> = RefCell::default();
+}
 
 pub fn clause_range(file: &[u32], number: u32) -> Option<Range<usize>> {
     let body = accept(file).ok()?.body;
-    let start = play::clause_place(body, number)?;
-    Some(start..start + 1 + (body[start] >> 8 & 255) as usize)
+    let mut start = 0;
+    for _ in 0..number {
+        start += 1 + following(*body.get(start)?);
+    }
+    Some(start..start + 1 + following(*body.get(start)?))
 }
 
 pub fn search(
@@ -63,15 +76,30 @@ fn search_file(
     proof: &mut [u32],
     answer: &mut [u32],
 ) -> Report {
-    let end = play::search(file, bound, budget, work);
-    let tries = load(work, TRIES);
-    match end {
-        End::NoProof => Report::after(Status::NoProof, tries),
-        End::RanOut => Report::after(Status::RanOut, tries),
-        End::Found => {
-            let report = write_answer(file, work, answer);
+    if bound == 0 {
+        return Report::of(Status::NoProof);
+    }
+    NOTES.with_borrow_mut(|notes| {
+        search_index(&notes.index(file.body), file.question, bound, budget, work, proof, answer)
+    })
+}
+
+fn search_index(
+    index: &Index,
+    question: usize,
+    bound: u32,
+    budget: u32,
+    work: &mut Work,
+    proof: &mut [u32],
+    answer: &mut [u32],
+) -> Report {
+    match search::search(index, question, bound, budget, work) {
+        End::NoProof { tries } => Report::after(Status::NoProof, tries),
+        End::RanOut => Report::after(Status::RanOut, budget),
+        End::Found { steps, copies, tries } => {
+            let report = write_answer(index, steps, copies, work, answer);
             for (step, word) in proof.iter_mut().take(report.proof_words as usize).enumerate() {
-                *word = play::step_word(file.body, work, step);
+                *word = search::step_word(index, work, step);
             }
             Report { tries, ..report }
         }
@@ -79,18 +107,21 @@ fn search_file(
 }
 
 fn check_file(file: &Accepted, offered: &[u32], bound: u32, work: &mut Work, answer: &mut [u32]) -> Report {
-    match play::check(file, bound, offered, work) {
-        Ok(()) => write_answer(file, work, answer),
-        Err((status, place)) => Report::at(status, place),
-    }
+    NOTES.with_borrow_mut(|notes| {
+        let index = notes.index(file.body);
+        match check::check(&index, file.question, bound, offered, work) {
+            Ok(copies) => write_answer(&index, offered.len(), copies, work, answer),
+            Err((status, place)) => Report::at(status, place),
+        }
+    })
 }
 
-fn write_answer(file: &Accepted, work: &mut Work, buffer: &mut [u32]) -> Report {
-    let Some(written) = answer::write(file, work, buffer) else {
+fn write_answer(index: &Index, steps: usize, copies: u32, work: &mut Work, buffer: &mut [u32]) -> Report {
+    let Some(written) = answer::write(index, copies, work, buffer) else {
         return Report::of(Status::AnswerTooLong);
     };
     Report {
-        proof_words: load(work, FOUND_STEPS),
+        proof_words: steps as u32,
         disjuncts: written.disjuncts,
         answer_words: written.words as u32,
         ..Report::of(Status::Proved)

@@ -1,6 +1,6 @@
 //! Judging a file: the refusals 4 to 9. Nothing is built; the search works on the file's words.
 
-use crate::words::{FUNCTION, LITERAL, NEGATIVE, VARIABLE, arity, following, kind, literals, variables};
+use crate::words::{FUNCTION, LITERAL, NEGATIVE, arity, following, kind, literals, variables};
 use engine::{Report, Status};
 
 #[derive(Clone, Copy)]
@@ -18,9 +18,8 @@ pub fn accept(file: &[u32]) -> Result<Accepted<'_>, Report> {
     if trailer[3] as usize != body.len() || count == 0 || count > 512 || question >= body.len() {
         return Err(Report::of(Status::Trailer));
     }
-    let mut fingerprint = Fingerprint::new();
-    let judged = judge_body(body, &mut fingerprint);
-    if trailer[2] != fingerprint.of_all(body) {
+    let (judged, fingerprint) = judge_body(body);
+    if trailer[2] != fingerprint {
         return Err(Report::of(Status::Fingerprint));
     }
     let (clauses, last) = judged.map_err(|place| Report::at(Status::MalformedBody, place))?;
@@ -33,79 +32,85 @@ pub fn accept(file: &[u32]) -> Result<Accepted<'_>, Report> {
     Ok(Accepted { body, question })
 }
 
-/// The fingerprint of the words taken in so far. Its products wait for each other, so the words are judged meanwhile.
-struct Fingerprint {
-    hash: u32,
-    words: usize,
+const START: u32 = 0x811C_9DC5;
+const PRIME: u32 = 0x0100_0193;
+const PRIME_2: u32 = PRIME.wrapping_mul(PRIME);
+const PRIME_4: u32 = PRIME_2.wrapping_mul(PRIME_2);
+
+/// The fingerprint of one word more. Its products wait for each other, so the words are judged meanwhile.
+#[inline(always)]
+fn fingerprint(hash: u32, word: u32) -> u32 {
+    word.to_le_bytes().iter().fold(hash, |hash, &byte| (hash ^ u32::from(byte)).wrapping_mul(PRIME))
 }
 
-impl Fingerprint {
-    fn new() -> Fingerprint {
-        Fingerprint { hash: 0x811C_9DC5, words: 0 }
-    }
-
-    #[inline(always)]
-    fn take(&mut self, word: u32) {
-        for byte in word.to_le_bytes() {
-            self.hash = (self.hash ^ u32::from(byte)).wrapping_mul(0x0100_0193);
-        }
-        self.words += 1;
-    }
-
-    fn of_all(mut self, body: &[u32]) -> u32 {
-        for &word in &body[self.words..] {
-            self.take(word);
-        }
-        self.hash
-    }
+/// The same of a variable, whose upper three bytes are 0: four products are one.
+#[inline(always)]
+fn with_variable(hash: u32, word: u32) -> u32 {
+    (hash ^ word).wrapping_mul(PRIME_4)
 }
 
-/// The number of clauses and the last one's place; or the place of the first wrong word.
-fn judge_body(body: &[u32], fingerprint: &mut Fingerprint) -> Result<(u32, usize), usize> {
+/// The same of any other word that fits: the third byte is 0, so two products are one.
+#[inline(always)]
+fn with_word(hash: u32, word: u32) -> u32 {
+    let [first, second, _, fourth] = word.to_le_bytes().map(u32::from);
+    let hash = (hash ^ first).wrapping_mul(PRIME);
+    let hash = (hash ^ second).wrapping_mul(PRIME_2);
+    (hash ^ fourth).wrapping_mul(PRIME)
+}
+
+/// The number of clauses and the last one's place, or the place of the first wrong word; and the fingerprint.
+fn judge_body(body: &[u32]) -> (Result<(u32, usize), usize>, u32) {
     let (mut start, mut last, mut count) = (0, 0, 0);
+    let mut hash = START;
     while start < body.len() {
         last = start;
         count += 1;
-        start = judge_clause(body, start, fingerprint)?;
+        let (end, taken, fine) = judge_clause(body, start, hash);
+        if !fine {
+            return (Err(end), body.iter().fold(START, |hash, &word| fingerprint(hash, word)));
+        }
+        (start, hash) = (end, taken);
     }
-    Ok((count, last))
+    (Ok((count, last)), hash)
 }
 
-/// The place after the clause.
+/// The place after the clause and the fingerprint up to it; or the place of the first wrong word.
 #[inline(always)]
-fn judge_clause(body: &[u32], start: usize, fingerprint: &mut Fingerprint) -> Result<usize, usize> {
+fn judge_clause(body: &[u32], start: usize, hash: u32) -> (usize, u32, bool) {
     let clause = body[start];
     let mut literals = literals(clause);
     let variables = variables(clause);
     let end = start + 1 + following(clause);
     if clause >> 16 != 0xC000 || literals == 0 || variables > 16 || end == start + 1 || end > body.len() {
-        return Err(start);
+        return (start, hash, false);
     }
-    fingerprint.take(clause);
+    let mut hash = with_word(hash, clause);
     let mut terms = 0;
     for (place, &word) in (start + 1..).zip(&body[start + 1..end]) {
-        if terms > 0 {
-            if !term_fits(word, variables) {
-                return Err(place);
-            }
-            terms -= 1;
-        } else {
+        if terms == 0 {
             if literals == 0 || !literal_fits(word) {
-                return Err(place);
+                return (place, hash, false);
             }
             literals -= 1;
+        } else {
+            terms -= 1;
+            if word < variables {
+                hash = with_variable(hash, word);
+                continue;
+            }
+            if !function_fits(word) {
+                return (place, hash, false);
+            }
         }
-        if kind(word) != VARIABLE {
-            terms += arity(word);
-        }
-        fingerprint.take(word);
+        terms += arity(word);
+        hash = with_word(hash, word);
     }
-    if terms > 0 || literals > 0 { Err(end) } else { Ok(end) }
+    (end, hash, terms == 0 && literals == 0)
 }
 
 #[inline(always)]
-fn term_fits(word: u32, variables: u32) -> bool {
-    word < variables || (kind(word) == FUNCTION && word & 0x3FFF_8000 == 0 && arity(word) <= 4)
+fn function_fits(word: u32) -> bool {
+    kind(word) == FUNCTION && word & 0x3FFF_8000 == 0 && arity(word) <= 4
 }
 
 #[inline(always)]

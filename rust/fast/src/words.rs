@@ -1,9 +1,7 @@
 //! Fields of words.
 
-pub const VARIABLE: u32 = 0;
 pub const FUNCTION: u32 = 1;
 pub const LITERAL: u32 = 2;
-pub const CLAUSE: u32 = 3;
 pub const NEGATIVE: u32 = 1 << 15;
 
 #[inline(always)]

@@ -12,7 +12,7 @@ pub struct Asked {
 
 type Family = fn(&mut Random) -> Asked;
 
-const FAMILIES: [(usize, Family); 13] = [
+const FAMILIES: [(usize, Family); 14] = [
     (8, propositional),
     (18, horn),
     (22, mixed),
@@ -26,6 +26,7 @@ const FAMILIES: [(usize, Family); 13] = [
     (2, doubling),
     (4, equations),
     (2, wide),
+    (3, facts),
 ];
 
 pub fn any(random: &mut Random) -> Asked {
@@ -309,6 +310,36 @@ fn wide(random: &mut Random) -> Asked {
         }
     }
     lines.push(format!("? path(n{},n{})", random.below(5), random.below(40)));
+    Asked { table: written(&lines.join("\n")), bound: random.between(1, 6) as u32 }
+}
+
+/// Many facts of few predicates, their first arguments constants, terms and now and then a variable, between rules of the same predicates.
+pub fn facts(random: &mut Random) -> Asked {
+    let names = random.pick(&[2, 5, 20]);
+    let first = |random: &mut Random| match random.below(12) {
+        0 => "X".to_owned(),
+        1 => format!("f(n{})", random.below(names)),
+        2 => "f(X)".to_owned(),
+        _ => format!("n{}", random.below(names)),
+    };
+    let count = if random.once_in(4) { random.between(60, 200) } else { random.between(10, 40) };
+    let mut lines: Vec<String> = (0..count)
+        .map(|_| {
+            let (from, to) = (first(random), first(random));
+            match random.below(16) {
+                0 => format!("step({from},{to}) | step({to},{from})"),
+                1 => format!("step({from},X) | ~ step({to},X)"),
+                2 | 3 => format!("seen({from})"),
+                _ => format!("step({from},{to})"),
+            }
+        })
+        .collect();
+    let rules = ["way(X,Z) | ~ step(X,Z)", "way(X,Z) | ~ step(X,Y) | ~ way(Y,Z)", "way(X,X) | ~ seen(X)"];
+    for rule in rules {
+        lines.insert(random.below(lines.len() + 1), rule.to_owned());
+    }
+    let (from, to) = (first(random), random.pick(&["Z", "n1", "nowhere", "f(Z)"]));
+    lines.push(random.pick(&[format!("? way({from},{to})"), format!("? step({from},Y), seen(Y)")]));
     Asked { table: written(&lines.join("\n")), bound: random.between(1, 6) as u32 }
 }
 

@@ -1,4 +1,4 @@
-//! The proved engine, its own text compiled by rustc, and the Rust engine of its design with and without bounds checks, side by side.
+//! The proved engine, its own text compiled by rustc, and the Rust engine written to be fast with and without bounds checks, side by side.
 //! `timing texts` puts reading clause text beside Rust; `timing call SIDE QUESTION` makes one call, for counting its instructions; `timing questions` lists the questions;
 //! `timing export DIRECTORY` writes each question as input of document 01's program, for measuring other builds by the same.
 

@@ -6,6 +6,9 @@ use engine::word::Symbol;
 
 const PRIM: &str = include_str!("../../examples/prim.table");
 const GROUP2: &str = include_str!("../../examples/group2.table");
+const KNIGHTS: &str = include_str!("../../examples/knights-yes.table");
+/// A season of playbills as clause text: facts by the hundred of few predicates, alternatives, rules about casts and understudies.
+const SEASON: &str = include_str!("../../examples/season.tptp");
 
 pub struct Workload {
     pub name: String,
@@ -19,7 +22,11 @@ pub fn main() -> Vec<Workload> {
     vec![
         workload("prim", PRIM, 11, 1_000_000),
         workload("group2", GROUP2, 10, u32::MAX),
+        workload("knights K=6", KNIGHTS, 6, u32::MAX),
+        season(8),
+        season(10),
         wide(400),
+        facts(400),
         deep(200),
         longest_file(),
         workload("case 1", "at(e,mat) | at(e,eve)\n? at(e,X)", 2, 3),
@@ -35,10 +42,10 @@ pub fn all() -> Vec<Workload> {
 
 /// How cost grows with the table, the bound and the size of terms.
 pub fn growth() -> Vec<Workload> {
-    let tables = [50, 100, 200, 400, 500].map(wide);
+    let tables = [50, 100, 200, 400, 500].map(wide).into_iter().chain([50, 100, 200, 400, 500].map(facts));
     let bounds = [6, 7, 8, 9].map(|bound| workload(&format!("group2 K={bound}"), GROUP2, bound, u32::MAX));
     let terms = [10, 25, 50, 100, 200, 250].map(deep);
-    tables.into_iter().chain(bounds).chain(terms).collect()
+    tables.chain(bounds).chain(terms).collect()
 }
 
 fn workload(name: &str, table: &str, bound: u32, budget: u32) -> Workload {
@@ -59,6 +66,22 @@ fn wide(clauses: usize) -> Workload {
     };
     let lines: Vec<String> = (0..clauses - 1).map(line).chain(["? q0(a)".to_owned()]).collect();
     workload(&format!("wide {clauses}"), &lines.join("\n"), LEVELS as u32, u32::MAX)
+}
+
+/// A way from the first of many facts of one predicate to the next, which ends nowhere: every leaf tries all of them, and one fits.
+fn facts(clauses: usize) -> Workload {
+    let mut lines = vec!["way(X,Z) | ~ step(X,Z)".to_owned(), "way(X,Z) | ~ step(X,Y) | ~ way(Y,Z)".to_owned()];
+    lines.extend((0..clauses - 3).map(|number| format!("step(n{number},n{})", number + 1)));
+    lines.push("? way(n0,nowhere)".to_owned());
+    workload(&format!("facts {clauses}"), &lines.join("\n"), 12, u32::MAX)
+}
+
+fn season(bound: u32) -> Workload {
+    let mut file = vec![0; 16_000];
+    let read = orders::tptp::read(SEASON.as_bytes(), &mut file);
+    assert_eq!(read.status, 0);
+    file.truncate(read.words as usize);
+    Workload { name: format!("season K={bound}"), bound, budget: u32::MAX, file }
 }
 
 /// Each try at p(…) goes through a term of this many words before it fits or does not.

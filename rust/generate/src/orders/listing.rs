@@ -85,6 +85,9 @@ pub fn borders() -> Vec<String> {
     {
         add(Check { offered, ..either.clone() });
     }
+    for length in [1_024, 1_025] {
+        add(Check { offered: vec![1; length], ..either.clone() });
+    }
     add(Check { file: vec![], ..either.clone() });
     add(Check { file: either.file[1..].to_vec(), ..either.clone() });
     // A circle; and an answer of 2^30 words, which nobody asks for.

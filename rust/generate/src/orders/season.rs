@@ -151,6 +151,14 @@ pub fn borders() -> Vec<String> {
     let alone = write(&tables::written("? at(e,X)"));
     lines.push(Season { table: alone, ..season(&[first, [0, 0, 2, 9]]) }.line(Spelling::Full));
     lines.push(too_long().line(Spelling::Short));
+    // The rooms of the protocol, and one word more.
+    for words in [16_400, 16_401] {
+        lines.push(Season { entries: vec![0; words], ..season(&[]) }.line(Spelling::Short));
+    }
+    for words in [16_100, 16_101] {
+        lines.push(Season { list: vec![0; words], ..season(&[]) }.line(Spelling::Short));
+        lines.push(Season { table: vec![0; words], ..season(&[]) }.line(Spelling::Short));
+    }
     lines
 }
 
