@@ -100,7 +100,7 @@ struct hukolearu_least hukolearu_smallest(const uint32_t *file, size_t file_word
 
 /* Order 1: a question file from TPTP clause text (roles axiom, hypothesis and negated_conjecture). On 0 the file stands at the front of the
  * buffer, later words unchanged; a refusal leaves it unchanged: 17 with the place of the first byte that is wrong (65,536 for a longer
- * text), 18 not exactly one question, 19 over a limit or over the buffer, 9 a positive literal in the question. Stack: under 1 MiB more. */
+ * text), 18 not exactly one question, 19 over a limit or over the buffer, 9 a positive literal in the question. Stack: 2 MiB more. */
 struct hukolearu_text_read {
     uint32_t status;
     uint32_t place;
