@@ -5,7 +5,7 @@
  *   file, offered  only read
  *   work           status 1: unchanged; any other status: the first 16,384 words are zero afterwards, later ones unchanged
  *   proof, answer  status 0: the proof and the answer stand at the front, later words unchanged; any other status: unchanged
- * Stack: for the deepest tables that have been found a whole program with its own buffers needed 672 KB; lend 1 MiB or more.
+ * Stack: the searches and checks of the deepest tables that have been found need under 150 KB; lend 1 MiB, and what a call below asks for more.
  * No two buffers may overlap. Nothing is allocated and nothing is kept between calls; calls on different buffers may run at the same time.
  */
 #ifndef HUKOLEARU_H

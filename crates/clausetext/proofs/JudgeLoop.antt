@@ -147,7 +147,7 @@ module _ {n : ℕ} {s : State} (g : Small n s) where
       (grown-cond (eqb c (owedAt i)) _ _ (stays (Owed (i + 1))) tt)
       (grown-cond (eqb (owedAt i) 46) _ _ (kind-grown c (kindOf c)) tt)
 
-  step-grown : (c : ℕ) {t : State} → Next t ≡ stepOf s c → Small (suc n) t
+  pub step-grown : (c : ℕ) {t : State} → Next t ≡ stepOf s c → Small (suc n) t
   unfolding stepOf
   step-grown c e = let h = byte-grown c (s .mode) in rw (sym e) at h
 

@@ -9,5 +9,6 @@ pub mod Lexing
 pub mod Walking
 pub mod JudgeLaws
 pub mod JudgeLoop
+pub mod StuckLoop
 pub mod Promises
 pub mod Examples

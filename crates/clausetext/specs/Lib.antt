@@ -6,3 +6,4 @@ pub mod Texts
 pub mod Judging
 pub mod Lexemes
 pub mod Promises
+pub mod Stuck

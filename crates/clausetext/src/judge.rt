@@ -329,7 +329,7 @@ fn in_comment(s: State, c: u8) -> Stepped
     move_to(s, want, Mode::Comment)
 }
 
-fn advance(s: State, c: u8) -> Stepped
+pub(crate) fn advance(s: State, c: u8) -> Stepped
     requires { ⌜ Room s ⌝ }
     ensures { λ r. ⌜ r ≡ stepOf s c ⌝ }
 {

@@ -1,5 +1,5 @@
 // Names: the names that stand in a text, numbered by their first use.
 mod known;
-mod name;
+pub mod name;
 pub mod table;
 mod tree;

@@ -49,7 +49,7 @@ pub(crate) fn same(text: &[u8], one: usize, other: usize) -> bool
 }
 
 // How many bytes the name at a place has.
-pub(crate) fn bytes(text: &[u8], at: usize) -> usize
+pub fn bytes(text: &[u8], at: usize) -> usize
     ensures { λ r. ⌜ r ≡ length (nameAt (now (text .entry)) at) ⌝ }
 {
     let mut i = at;

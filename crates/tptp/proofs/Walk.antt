@@ -35,7 +35,7 @@ run-taken (c ∷ cs) = go (nameByte c) (run-taken cs)
     go true ih = ap (λ (l : List ℕ). c ∷ l) ih
     go false ih = refl
 
-name-found : {text : List ℕ} {at : ℕ} {w : Name} {ts : List Token} {from stop : ℕ} → WordFound text at w ts from stop → nameAt text from ≡ w
+pub name-found : {text : List ℕ} {at : ℕ} {w : Name} {ts : List Token} {from stop : ℕ} → WordFound text at w ts from stop → nameAt text from ≡ w
 name-found {text} {from = from} f = run-taken (drop from text) ∙ rw (f .whole) (f .bytes)
 
 -- what is left to gather gives the items of what the text says
@@ -72,39 +72,39 @@ begin-going y e = record {
 }
 
 -- the token found is the first that is left
-record Head (text : List ℕ) (at : ℕ) (left : List Token) (from stop : ℕ) (token : Name → Token) : Type 0 where
+pub record Head (text : List ℕ) (at : ℕ) (left : List Token) (from stop : ℕ) (token : Name → Token) : Type 0 where
   pub name : Name
   pub others : List Token
   pub first : left ≡ token name ∷ others
   pub found : WordFound text at name others from stop
 
-record SignHead (text : List ℕ) (at : ℕ) (left : List Token) (m : Mark) (next : ℕ) : Type 0 where
+pub record SignHead (text : List ℕ) (at : ℕ) (left : List Token) (m : Mark) (next : ℕ) : Type 0 where
   pub others : List Token
   pub first : left ≡ mark m ∷ others
   pub found : SignFound text at others next
 
-word-head : {text : List ℕ} {at : ℕ} {left : List Token} {l : Lexeme} {from stop : ℕ} → Met text at left l → l ≡ Word from stop → Head text at left from stop word
+pub word-head : {text : List ℕ} {at : ℕ} {left : List Token} {l : Lexeme} {from stop : ℕ} → Met text at left l → l ≡ Word from stop → Head text at left from stop word
 word-head over e = let z : _≡_ {A = ℕ} 0 1 = cc in absurd (omega arith)
 word-head {from = from} {stop = stop} (lettered {w} {ts} {start = a} {stop = b} f) e =
     let x : a ≡ from = cc in let y : b ≡ stop = cc in record { name = w; others = ts; first = refl; found = rw (x, y) at f }
 word-head (titled f) e = let z : _≡_ {A = ℕ} 0 1 = cc in absurd (omega arith)
 word-head (single f) e = let z : _≡_ {A = ℕ} 0 1 = cc in absurd (omega arith)
 
-capital-head : {text : List ℕ} {at : ℕ} {left : List Token} {l : Lexeme} {from stop : ℕ} → Met text at left l → l ≡ Capital from stop → Head text at left from stop capital
+pub capital-head : {text : List ℕ} {at : ℕ} {left : List Token} {l : Lexeme} {from stop : ℕ} → Met text at left l → l ≡ Capital from stop → Head text at left from stop capital
 capital-head over e = let z : _≡_ {A = ℕ} 0 1 = cc in absurd (omega arith)
 capital-head (lettered f) e = let z : _≡_ {A = ℕ} 0 1 = cc in absurd (omega arith)
 capital-head {from = from} {stop = stop} (titled {x = w} {ts} {start = a} {stop = b} f) e =
     let x : a ≡ from = cc in let y : b ≡ stop = cc in record { name = w; others = ts; first = refl; found = rw (x, y) at f }
 capital-head (single f) e = let z : _≡_ {A = ℕ} 0 1 = cc in absurd (omega arith)
 
-sign-head : {text : List ℕ} {at : ℕ} {left : List Token} {l : Lexeme} {m : Mark} {next : ℕ} → Met text at left l → l ≡ Sign m next → SignHead text at left m next
+pub sign-head : {text : List ℕ} {at : ℕ} {left : List Token} {l : Lexeme} {m : Mark} {next : ℕ} → Met text at left l → l ≡ Sign m next → SignHead text at left m next
 sign-head over e = let z : _≡_ {A = ℕ} 0 1 = cc in absurd (omega arith)
 sign-head (lettered f) e = let z : _≡_ {A = ℕ} 0 1 = cc in absurd (omega arith)
 sign-head (titled f) e = let z : _≡_ {A = ℕ} 0 1 = cc in absurd (omega arith)
 sign-head {m = m} {next = next} (single {m = k} {ts} {next = b} f) e =
     let x : k ≡ m = cc in let y : b ≡ next = cc in record { others = ts; first = rw x refl; found = rw y at f }
 
-nothing-left : {text : List ℕ} {at : ℕ} {left : List Token} {l : Lexeme} → Met text at left l → l ≡ Over → left ≡ []
+pub nothing-left : {text : List ℕ} {at : ℕ} {left : List Token} {l : Lexeme} → Met text at left l → l ≡ Over → left ≡ []
 nothing-left over e = refl
 nothing-left (lettered f) e = let z : _≡_ {A = ℕ} 0 1 = cc in absurd (omega arith)
 nothing-left (titled f) e = let z : _≡_ {A = ℕ} 0 1 = cc in absurd (omega arith)

@@ -41,7 +41,7 @@ fn shape(mark: u32) -> u32
 }
 
 // Writes the words of the marks, unless a mark has too many parts.
-pub(crate) fn shapes(marks: &[u32], words: &mut [u32]) -> bool
+pub fn shapes(marks: &[u32], words: &mut [u32]) -> bool
     requires { ⌜ length (now marks) ≡ length (now words) ⌝ }
     ensures { λ r. ⌜ Shaped (now (marks .entry)) (now (words .entry)) (now (words .exit)) r ⌝ }
 {

@@ -251,7 +251,7 @@ fn on_mark(inner: &mut [u32], p: Progress, mark: Mark) -> Progress
 }
 
 // Gathers the items of a permitted text, and tells how many there are.
-pub(crate) fn gather(text: &[u8], marks: &mut [u32], places: &mut [u32], inner: &mut [u32]) -> usize
+pub fn gather(text: &[u8], marks: &mut [u32], places: &mut [u32], inner: &mut [u32]) -> usize
     requires { ⌜ (length (now text) ≤ 65536) × Permitted (now text) × Empty (now marks) (now places) (now inner) ⌝ }
     ensures { λ r. ⌜ Gathered (now (text .entry)) (now (marks .exit)) (now (places .exit)) r ⌝ }
 {

@@ -1,0 +1,4 @@
+pub mod Place
+pub mod Expected
+pub mod Refusals
+pub mod Results

@@ -1,0 +1,9 @@
+pub mod Lookups
+pub mod Showing
+pub mod FirstUses
+pub mod Indexing
+pub mod ClauseNames
+pub mod ClauseIndex
+pub mod Examples
+pub mod Texts
+pub mod ReadBack
