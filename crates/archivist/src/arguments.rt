@@ -4,17 +4,18 @@ use requests::piece;
 use requests::piece::Number;
 use text::part;
 
-// Limit and budget as they are asked, or else; whether the arguments are as they should be.
+// Limit and budget as they are asked, or else; whether the proof is to be written; whether the arguments are as they should be.
 pub struct Options {
     pub limit: u32,
     pub budget: u32,
+    pub proof: bool,
     pub good: bool,
 }
 
 pub fn usage() {
     io::write_all(
         STDERR_FILENO,
-        b"usage: hukolearu ask [--limit K] [--budget N] FILE\n       hukolearu words FILE\n       hukolearu text FILE\n       hukolearu slim FILE\nK is 0 to 32 (else 32), N is 0 to 4294967295 (else 10000000). `man hukolearu` tells more.\n",
+        b"usage: hukolearu ask [--limit K] [--budget N] [--proof] FILE\n       hukolearu words FILE\n       hukolearu text FILE\n       hukolearu slim FILE\nK is 0 to 32 (else 32), N is 0 to 4294967295 (else 10000000). `man hukolearu` tells more.\n",
     );
 }
 
@@ -54,6 +55,7 @@ fn refused() -> Options {
     Options {
         limit: 0,
         budget: 0,
+        proof: false,
         good: false,
     }
 }
@@ -66,7 +68,7 @@ fn many(at: usize) -> usize {
     2
 }
 
-fn counted(limit: usize, budget: usize, files: usize) -> bool {
+fn counted(limit: usize, budget: usize, proof: usize, files: usize) -> bool {
     let mut left = os::arg_count();
     if left < 2 {
         return false;
@@ -86,14 +88,18 @@ fn counted(limit: usize, budget: usize, files: usize) -> bool {
         return false;
     }
     left -= b;
-    left == 0
+    if proof == 0 {
+        return left == 0;
+    }
+    left == 1
 }
 
 // The options of a command that is given so many files.
 pub fn asked(files: usize) -> Options {
     let limit_at = following(b"--limit");
     let budget_at = following(b"--budget");
-    if !counted(limit_at, budget_at, files) {
+    let proof_at = following(b"--proof");
+    if !counted(limit_at, budget_at, proof_at, files) {
         return refused();
     }
     let limit_said = value(limit_at, 32);
@@ -107,6 +113,7 @@ pub fn asked(files: usize) -> Options {
     Options {
         limit,
         budget,
+        proof: proof_at != 0,
         good: limit <= 32,
     }
 }

@@ -263,7 +263,23 @@ fn show_answer(
     show::words(text, index, part::front(index, 0), atoms, words, out, at)
 }
 
-fn tell_found(name: &[u8], text: &[u8], file: &[u32], l: Looked, steps: &[u32], words: &[u32]) {
+// The proof in a form that can be read: a step a line.
+fn tell_proof(text: &[u8], index: &[u32], steps: &[u32]) {
+    let mut out = page();
+    let n = written_proofs::write::proof(text, part::rest(index, 8192), steps, &mut out, 0);
+    io::write_all(STDOUT_FILENO, b"Proof:\n");
+    write(STDOUT_FILENO, &out, n);
+}
+
+fn tell_found(
+    name: &[u8],
+    text: &[u8],
+    file: &[u32],
+    proved: bool,
+    l: Looked,
+    steps: &[u32],
+    words: &[u32],
+) {
     let o = l.outcome;
     let mut index = index_buffer();
     naming::index::index(text, &mut index);
@@ -273,6 +289,9 @@ fn tell_found(name: &[u8], text: &[u8], file: &[u32], l: Looked, steps: &[u32], 
     let c = put::byte(&mut out, b, b'\n');
     write(STDOUT_FILENO, &out, c);
     tell_behind(text, &index, file, l.bound, steps);
+    if proved {
+        tell_proof(text, &index, steps);
+    }
     status_line(name, b"Unsatisfiable");
 }
 
@@ -282,6 +301,7 @@ fn tell(
     text: &[u8],
     file: &[u32],
     limit: u32,
+    proved: bool,
     l: Looked,
     proof: &[u32],
     answer: &[u32],
@@ -293,6 +313,7 @@ fn tell(
             name,
             text,
             file,
+            proved,
             l,
             part::front(proof, wide(o.proof)),
             part::front(answer, wide(o.answer)),
@@ -321,7 +342,7 @@ fn answer(o: Options, name: &[u8], text: &[u8], file: &[u32]) {
     let mut words = answer_buffer();
     let mut work = files::file_buffer();
     let l = look(file, o.limit, o.budget, &mut proof, &mut words, &mut work);
-    tell(name, text, file, o.limit, l, &proof, &words);
+    tell(name, text, file, o.limit, o.proof, l, &proof, &words);
 }
 
 fn ask_text(o: Options, name: &[u8], text: &[u8]) {

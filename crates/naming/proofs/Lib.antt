@@ -7,3 +7,4 @@ pub mod ClauseIndex
 pub mod Examples
 pub mod Texts
 pub mod ReadBack
+pub mod Again

@@ -2,14 +2,16 @@
 use mathlib.Core.Bool.{Bool, true, _&&_}
 use mathlib.Core.List.{List, [], _∷_, _++_}
 use mathlib.Core.Path.{_≡_}
-use Prim.Native.Nat.{ℕ, suc}
-use lib.ListN.{getD}
+use Prim.Native.Nat.{ℕ, suc, _<_}
+use lib.ListN.{length, getD}
 use Rattle.clausetext.specs.declared.kind.Kind.{Kind}
 use Rattle.clausetext.specs.declared.kind.Kind.the-variants.{Lower, Upper}
 use Rattle.clausetext.specs.Kinds.{kindOf, goesOn}
 use Rattle.clausetext.specs.Syntax as Spoken
 use Rattle.clausetext.specs.Tokens.{Token, Spelt}
 use Rattle.clausetext.specs.Grammar.{LiteralRule}
+use Rattle.names.specs.Numbers.{Name, firstUses, numberIn}
+use Rattle.tptp.specs.Said.{literalSaid}
 use Rattle.table.specs.Syntax.{Term, var, app, Terms, nil, _then_, Literal}
 use Rattle.table.specs.Encode.{literalsWords}
 use Rattle.table.specs.Limits.{LiteralWithin, Each}
@@ -88,3 +90,23 @@ unfoldable pub ReadsAsShown : Type 0
 ReadsAsShown =
     (names : Names) (l : Literal ℕ) → Begins Lower (getD (names .predicates) (l .predicate) []) → TermsNamed names (l .arguments)
     → ReadAs (literalText names l) (literalNaming names l)
+
+-- With the names numbered again, the literal read is the literal shown: where each name that it is shown in has its own number back.
+unfoldable mutual
+  pub TermKnown : Names → List Name → Term ℕ → Type 0
+  TermKnown names vs (var x) = numberIn vs (variableName names x) ≡ x
+  TermKnown names vs (app f ts) = (numberIn (names .functions) (getD (names .functions) f []) ≡ f) × TermsKnown names vs ts
+
+  pub TermsKnown : Names → List Name → Terms ℕ → Type 0
+  TermsKnown names vs nil = Unit {0}
+  TermsKnown names vs (t then ts) = TermKnown names vs t × TermsKnown names vs ts
+
+unfoldable pub SaidAgain : Type 0
+SaidAgain =
+    (names : Names) (vs : List Name) (l : Literal ℕ)
+    → numberIn (names .predicates) (getD (names .predicates) (l .predicate) []) ≡ l .predicate → TermsKnown names vs (l .arguments)
+    → literalSaid (names .predicates) (names .functions) vs (literalNaming names l) ≡ l
+
+-- and names numbered by first use have their own numbers back
+unfoldable pub OwnNumbers : Type 0
+OwnNumbers = (uses : List Name) (n : ℕ) → n < length (firstUses uses) → numberIn (firstUses uses) (getD (firstUses uses) n []) ≡ n
