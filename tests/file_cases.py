@@ -1,8 +1,8 @@
 #!/usr/bin/env python3
-"""Writes question files for crates/file_cases, with the status and place that document 01 gives each of them, worked out here from its text.
+"""Writes question files for crates/file_cases, with the status and place that documents 01 and 02 give each of them, worked out here from their text.
 
 A case is a file of words in data/, and a line of stdout: name, status, place, the lengths of clauses 0, 1, 511 and 512 as looked up, and a
-fingerprint of clause 1. Every case states the status and place that its maker had in mind; `judge` below, a second reading of the document,
+fingerprint of clause 1. Every case states the status and place that its maker had in mind; `judge` below, a second reading of the documents,
 has to agree with them.
 """
 import struct
@@ -17,7 +17,7 @@ class Malformed(Exception):
         self.place = place
 
 
-# -- document 01, "Words of the question file" and "What comes back": the judgement of a file
+# -- document 01, "Words of the question file" and "What comes back", with the mark of document 02 (order 8): the judgement of a file
 
 
 def fingerprint(body):
@@ -53,7 +53,7 @@ def read_clause(body, start):
     word = body[start]
     literals, variables, following = field(word, 0, 2), field(word, 3, 7), field(word, 8, 15)
     end = start + 1 + following
-    fields_right = field(word, 30, 31) == CLAUSE and field(word, 16, 29) == 0 and 1 <= literals and variables <= 16
+    fields_right = field(word, 30, 31) == CLAUSE and field(word, 17, 29) == 0 and 1 <= literals and variables <= 16
     if not fields_right or following < 1 or end > len(body):
         raise Malformed(start)
     at, signs = start + 1, []
@@ -105,6 +105,8 @@ def judge(words):
         return 8, 0
     if not all(signs):
         return 9, 0
+    if field(body[question], 16, 16) == 1:
+        return 21, 0
     return 0, 0
 
 
@@ -157,6 +159,11 @@ def chain(words, negative):
     return clause(1, 0, lit(1, 1, negative), *[fun(2, 1)] * (words - 3), fun(3))
 
 
+def restricted(words):
+    """The clause with its mark."""
+    return [words[0] | 1 << 16, *words[1:]]
+
+
 FACT = clause(1, 0, lit(1))
 ASK = clause(1, 0, neg(1))
 PAIR = clause(2, 0, lit(1, 2), fun(1), fun(2), lit(1, 2), fun(1), fun(3))
@@ -205,7 +212,8 @@ case("6-before-7", file([var(0)], ASK, mark=0), 6)
 case("7-clause-kind-variable", file([var(0)], ASK), 7, 0)
 case("7-clause-kind-function", file([fun(1)], ASK), 7, 0)
 case("7-clause-kind-literal", file([lit(1)], ASK), 7, 0)
-case("7-clause-bit-16", file([FACT[0] | 1 << 16, *FACT[1:]], ASK), 7, 0)
+case("7-clause-bit-17", file([FACT[0] | 1 << 17, *FACT[1:]], ASK), 7, 0)
+case("7-restricted-clause-bit-17", file(FACT, [FACT[0] | 3 << 16, *FACT[1:]], ASK), 7, 2)
 case("7-clause-bit-29", file([FACT[0] | 1 << 29, *FACT[1:]], ASK), 7, 0)
 case("7-clause-no-literals", file([head(0, 0, 1), lit(1)], ASK), 7, 0)
 case("7-clause-17-variables", file([head(1, 17, 1), lit(1)], ASK), 7, 0)
@@ -269,6 +277,18 @@ case("8-before-9", file(FACT, FACT, question=0), 8)
 case("9-fact-asked", file(FACT), 9)
 case("9-second-of-two", file(FACT, clause(2, 0, neg(1), lit(2))), 9)
 case("9-first-of-two", file(ASK, clause(2, 1, lit(1, 1), var(0), neg(1))), 9)
+case("9-before-21", file(FACT, restricted(FACT)), 9)
+
+# bit 16 marks a clause as restricted; 21: a restricted question
+case("ok-restricted", file(restricted(FACT), ASK), 0)
+case("ok-restricted-second-of-two", file(PAIR, restricted(PAIR), WHO), 0)
+case("ok-restricted-all", file(restricted(FACT), restricted(ASK), restricted(FACT), ASK), 0)
+case("7-restricted-clause-17-variables", file(FACT, restricted(clause(1, 17, lit(1))), ASK), 7, 2)
+case("7-restricted-wrong-word", file(restricted(clause(1, 0, lit(1, 1), var(0))), restricted(ASK)), 7, 2)
+case("8-before-21", file(FACT, restricted(ASK), count=1), 8)
+case("21-question-alone", file(restricted(ASK)), 21)
+case("21-fact-and-question", file(FACT, restricted(ASK)), 21)
+case("21-all-restricted", file(restricted(FACT), restricted(FACT), restricted(WHO)), 21)
 
 
 def line(name, words, status, place):

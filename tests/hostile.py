@@ -14,8 +14,8 @@ def hexes(words):
     return " ".join(f"{word:X}" for word in words) or "-"
 
 
-def search(title, clauses, bound=32, budget=FULL, answer=4096):
-    REQUESTS.append(f"# {title}\nsearch {bound} {budget} 16384 199 {answer} / {hexes(file_of(clauses))}")
+def search(title, clauses, bound=32, budget=FULL, answer=4096, verb="search"):
+    REQUESTS.append(f"# {title}\n{verb} {bound} {budget} 16384 199 {answer} / {hexes(file_of(clauses))}")
 
 
 def check(title, clauses, steps, bound=32, answer=4096):
@@ -218,6 +218,15 @@ def many():
     search("500 clauses that double, the last fits", [*doubles, Clause(("~", Q, "T", "T", (509,)))])
 
 
+# As many restricted clauses as there can be: education passes over them (order 8).
+def hidden():
+    for title, marked in (("all", range(500)), ("all but the last", range(499)), ("every second one", range(0, 500, 2))):
+        doubles = [Clause(("+", Q, row([f"X{i}" for i in range(1, 5)]), doubled(chain("X", 4)), (10 + i,))) for i in range(500)]
+        for place in marked:
+            doubles[place].words[0] |= 1 << 16
+        search(f"500 clauses that double, {title} restricted", [*doubles, Clause(("~", Q, "T", "T", (509,)))], verb="edu-search")
+
+
 # Thirteen copies of the question, each with a term of its own that grows from a constant: x1 = g(a,a,a,a), .. g(x1,x1,x1,x1), ..
 # Equal terms are said once (order 3); the last copy's may differ in the last place alone, or each in the name of a variable.
 def grown(count, bottom, last):
@@ -245,6 +254,6 @@ def repeats():
     copies("all equal, in a word fewer", one, one, answer=22)
 
 
-for family in (within, two_within, across, compared, crowds, deep, branches, many, repeats):
+for family in (within, two_within, across, compared, crowds, deep, branches, many, hidden, repeats):
     family()
 keep({"tests/hostile.txt": "\n".join(REQUESTS) + "\n"})

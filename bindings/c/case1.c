@@ -43,6 +43,20 @@ int main(void)
     struct hukolearu_outcome small = hukolearu_search(file, 15, 2, 3, proof, 199, answer, 64, work, 16383);
     wrong |= says("search, 16,383 work words: refused", small.status == HUKOLEARU_WORK_TOO_SHORT);
 
+    static uint32_t marked[15];
+    for (int i = 0; i < 15; i++)
+        marked[i] = file[i];
+    marked[0] |= 1u << 16;
+    marked[13] = 0x2763BFA1;
+    struct hukolearu_outcome seen = hukolearu_search(marked, 15, 2, 3, proof, 199, answer, 64, work, 16384);
+    struct hukolearu_outcome hidden = hukolearu_education_search(marked, 15, 2, 3, proof, 199, answer, 64, work, 16384);
+    struct hukolearu_outcome taught = hukolearu_education_search(file, 15, 2, 3, proof, 199, answer, 64, work, 16384);
+    struct hukolearu_outcome past = hukolearu_education_check(marked, 15, 2, steps, 2, answer, 64, work, 16384);
+    wrong |= says("education: nothing to enter where the playbill is restricted, the same as the search where it is not",
+                  seen.status == HUKOLEARU_FOUND && hidden.status == HUKOLEARU_NONE && hidden.tries == 0 && taught.status == HUKOLEARU_FOUND
+                      && taught.tries == 3 && same(proof, steps, 2) && same(answer, words, 6) && past.status == HUKOLEARU_STEP_NOT_ALLOWED
+                      && past.place == 0);
+
     static uint32_t slimmer[15], numbers[2];
     struct hukolearu_slimmed slim = hukolearu_slim(file, 15, slimmer, 15, numbers, 2);
     wrong |= says("slimmer file: nothing drops, and the file comes back word for word",

@@ -47,6 +47,7 @@ enum hukolearu_status {
     HUKOLEARU_QUESTIONS = 18,
     HUKOLEARU_OVER_A_LIMIT = 19,
     HUKOLEARU_CIRCLE = 20,
+    HUKOLEARU_RESTRICTED_QUESTION = 21,
     HUKOLEARU_ENTRIES = 23,
     HUKOLEARU_OUT_OF_RANGE = 24
 };
@@ -63,7 +64,18 @@ struct hukolearu_outcome hukolearu_check_proof(const uint32_t *file, size_t file
                                                const uint32_t *offered, size_t offered_words,
                                                uint32_t *answer, size_t answer_words, uint32_t *work, size_t work_words);
 
-/* Order 12: a slimmer file without repeats and dead clauses, and the old number of each clause that it keeps. A refusal (4 to 9, or 16
+/* Order 8: the education desk. Bit 16 of a clause word marks a clause as restricted; education's search and checker pass over such clauses and
+ * number the others from 0, the question last. Two accepted files with the same unrestricted clauses in the same order and the same question give
+ * the same numbers, proof, answer and work words. Statuses 4 to 9 and 21 are of the whole file. Arguments and buffers as above. Stack: 70 KB more. */
+struct hukolearu_outcome hukolearu_education_search(const uint32_t *file, size_t file_words, uint32_t bound, uint32_t budget,
+                                                    uint32_t *proof, size_t proof_words, uint32_t *answer, size_t answer_words,
+                                                    uint32_t *work, size_t work_words);
+
+struct hukolearu_outcome hukolearu_education_check(const uint32_t *file, size_t file_words, uint32_t bound,
+                                                   const uint32_t *offered, size_t offered_words,
+                                                   uint32_t *answer, size_t answer_words, uint32_t *work, size_t work_words);
+
+/* Order 12: a slimmer file without repeats and dead clauses, and the old number of each clause that it keeps. A refusal (4 to 9, 21, or 16
  * where either buffer is too short) leaves both buffers unchanged; on 0 later words are unchanged. */
 struct hukolearu_slimmed {
     uint32_t status;
@@ -110,7 +122,7 @@ struct hukolearu_text_read {
 struct hukolearu_text_read hukolearu_read(const uint8_t *text, size_t text_bytes, uint32_t *file, size_t file_words);
 
 /* Order 2: the text of a file, one clause a line, as cnf(c0,axiom,(p1(f1,f2) | ~ p2(X0))). with a line feed, the question last. On 0 the text
- * stands at the front of the buffer, later bytes unchanged; a refusal (4 to 9, or 16 where the text does not fit) leaves it unchanged. A text
+ * stands at the front of the buffer, later bytes unchanged; a refusal (4 to 9, 21, or 16 where the text does not fit) leaves it unchanged. A text
  * has at most 2,240,000 bytes. */
 struct hukolearu_text_written {
     uint32_t status;
@@ -129,7 +141,7 @@ struct hukolearu_text_written hukolearu_listing(const uint32_t *file, size_t fil
 
 /* Order 13: the season report, many questions put to one table. Four words an entry: the place and length of a question's words in the list,
  * a bound and a budget. Each question takes the place of the table's own; a bad one, or one that points past the list, counts as refused.
- * The buffers end as the single searches in turn leave them. 1, 2, the table's own (4 to 9), then 23: more than 4,096 entries, or words left
+ * The buffers end as the single searches in turn leave them. 1, 2, the table's own (4 to 9, 21), then 23: more than 4,096 entries, or words left
  * over; the numbers are then 0. Stack: 70 KB more. */
 struct hukolearu_season {
     uint32_t status;

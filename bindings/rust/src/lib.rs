@@ -90,6 +90,16 @@ mod archive {
             file: *const u32, file_words: usize, bound: u32, offered: *const u32, offered_words: usize,
             answer: *mut u32, answer_words: usize, work: *mut u32, work_words: usize,
         ) -> Outcome;
+        #[allow(clippy::too_many_arguments)]
+        pub fn hukolearu_education_search(
+            file: *const u32, file_words: usize, bound: u32, budget: u32, proof: *mut u32, proof_words: usize,
+            answer: *mut u32, answer_words: usize, work: *mut u32, work_words: usize,
+        ) -> Outcome;
+        #[allow(clippy::too_many_arguments)]
+        pub fn hukolearu_education_check(
+            file: *const u32, file_words: usize, bound: u32, offered: *const u32, offered_words: usize,
+            answer: *mut u32, answer_words: usize, work: *mut u32, work_words: usize,
+        ) -> Outcome;
         pub fn hukolearu_slim(
             file: *const u32, file_words: usize, slimmer: *mut u32, slimmer_words: usize, numbers: *mut u32, numbers_words: usize,
         ) -> Slimmed;
@@ -132,6 +142,28 @@ pub fn check_proof(file: &[u32], bound: u32, offered: &[u32], answer: &mut [u32]
     // SAFETY: as for `search`.
     unsafe {
         archive::hukolearu_check_proof(
+            file.as_ptr(), file.len(), bound, offered.as_ptr(), offered.len(),
+            answer.as_mut_ptr(), answer.len(), work.as_mut_ptr(), work.len(),
+        )
+    }
+}
+
+/// Education's search: it passes over restricted clauses and numbers the others from 0.
+pub fn education_search(file: &[u32], bound: u32, budget: u32, proof: &mut [u32], answer: &mut [u32], work: &mut [u32]) -> Outcome {
+    // SAFETY: as for `search`.
+    unsafe {
+        archive::hukolearu_education_search(
+            file.as_ptr(), file.len(), bound, budget, proof.as_mut_ptr(), proof.len(),
+            answer.as_mut_ptr(), answer.len(), work.as_mut_ptr(), work.len(),
+        )
+    }
+}
+
+/// Education's checker, for a proof whose numbers are those among the unrestricted clauses.
+pub fn education_check(file: &[u32], bound: u32, offered: &[u32], answer: &mut [u32], work: &mut [u32]) -> Outcome {
+    // SAFETY: as for `search`.
+    unsafe {
+        archive::hukolearu_education_check(
             file.as_ptr(), file.len(), bound, offered.as_ptr(), offered.len(),
             answer.as_mut_ptr(), answer.len(), work.as_mut_ptr(), work.len(),
         )
@@ -241,13 +273,36 @@ mod tests {
         assert_eq!((refusal(&clash), refusal(&circle)), (14, 20));
     }
 
+    fn fingerprint(body: &[u32]) -> u32 {
+        body.iter().flat_map(|word| word.to_le_bytes()).fold(0x811C9DC5, |hash, byte| (hash ^ u32::from(byte)).wrapping_mul(0x01000193))
+    }
+
+    #[test]
+    fn education_passes_over_restricted_clauses() {
+        // p(1), restricted; p(2); ask p(X)
+        let mut file = vec![0xC0010201, 0x80001001, 0x40000001, 0xC0000201, 0x80001001, 0x40000002, 0xC0000209, 0x80009001, 0x00000000];
+        file.extend([6, 3, fingerprint(&file), 9]);
+        let (mut proof, mut answer, mut work) = ([9; PROOF_WORDS], [9; 2], vec![9; WORK_WORDS]);
+        let found = Outcome { status: 0, place: 0, proof: 1, disjuncts: 1, answer: 2, tries: 1 };
+        assert_eq!(search(&file, 1, 1, &mut proof, &mut answer, &mut work), found);
+        assert_eq!((proof[0], answer), (0x40000000, [0x80001001, 0x40000001]));
+        assert_eq!(education_search(&file, 1, 1, &mut proof, &mut answer, &mut work), found);
+        assert_eq!((proof[0], answer), (0x40000000, [0x80001001, 0x40000002]));
+        assert!(work.iter().all(|&word| word == 0));
+        assert_eq!(education_check(&file, 1, &proof[..1], &mut answer, &mut work), Outcome { tries: 0, ..found });
+        // past the two unrestricted clauses there is none
+        assert_eq!(education_check(&file, 1, &[0x40000002], &mut answer, &mut work).status, 13);
+        file[6] |= 1 << 16;
+        file[11] = fingerprint(&file[..9]);
+        assert_eq!(search(&file, 1, 1, &mut proof, &mut answer, &mut work).status, 21);
+        assert_eq!(education_search(&file, 1, 1, &mut proof, &mut answer, &mut work).status, 21);
+        assert_eq!(education_check(&file, 1, &[], &mut answer, &mut work).status, 21);
+    }
+
     #[test]
     fn a_dead_clause_and_a_repeat_are_dropped() {
         // p or q (dead: no literal ~ q); p; p; ask p
         let mut file = vec![0xC0000202, 0x80000001, 0x80000002, 0xC0000101, 0x80000001, 0xC0000101, 0x80000001, 0xC0000101, 0x80008001];
-        let fingerprint = |body: &[u32]| {
-            body.iter().flat_map(|word| word.to_le_bytes()).fold(0x811C9DC5u32, |hash, byte| (hash ^ u32::from(byte)).wrapping_mul(0x01000193))
-        };
         file.extend([7, 4, fingerprint(&file), 9]);
         let (mut slimmer, mut numbers) = ([9; 9], [9; 3]);
         assert_eq!(slim(&file, &mut slimmer, &mut numbers), Slimmed { status: 0, place: 0, words: 8, clauses: 2 });

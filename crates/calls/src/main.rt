@@ -1,5 +1,5 @@
 // Answers requests from standard input, one a line: every public call, its buffers filled before it and looked over after it.
-// A verb is a row in `answer_request`, a function that makes the call, and its result line in `results`.
+// A verb is a row in one of the functions that `answer_request` asks, a function that makes the call, and its result line in `results`.
 ghost use mathlib.Core.Path.{_≡_};
 ghost use Prim.Native.Nat.{_≤_, _<_, min};
 ghost use lib.ListN.{length};
@@ -71,6 +71,13 @@ fn report(o: Outcome, steps: usize, proof: &[u32], answer: &[u32], work: &[u32])
 enum Run {
     Search,
     Smallest,
+    Education,
+}
+
+// Who has a proof checked.
+enum Asker {
+    Collections,
+    Education,
 }
 
 fn search(
@@ -82,6 +89,18 @@ fn search(
     work: &mut [u32],
 ) {
     let o = calls::search(file, bound, budget, proof, answer, work);
+    report(o, wide(o.proof), proof, answer, work);
+}
+
+fn search_seen(
+    file: &[u32],
+    bound: u32,
+    budget: u32,
+    proof: &mut [u32],
+    answer: &mut [u32],
+    work: &mut [u32],
+) {
+    let o = education::search(file, bound, budget, proof, answer, work);
     report(o, wide(o.proof), proof, answer, work);
 }
 
@@ -112,11 +131,33 @@ fn find(
     match run {
         Run::Search => search(file, bound, budget, proof, answer, work),
         Run::Smallest => find_smallest(file, bound, budget, proof, answer, work),
+        Run::Education => search_seen(file, bound, budget, proof, answer, work),
     }
 }
 
-fn check(file: &[u32], bound: u32, offered: &[u32], answer: &mut [u32], work: &mut [u32]) {
-    let o = calls::check_proof(file, bound, offered, answer, work);
+fn checked(
+    asker: Asker,
+    file: &[u32],
+    bound: u32,
+    offered: &[u32],
+    answer: &mut [u32],
+    work: &mut [u32],
+) -> Outcome {
+    match asker {
+        Asker::Collections => calls::check_proof(file, bound, offered, answer, work),
+        Asker::Education => education::check_proof(file, bound, offered, answer, work),
+    }
+}
+
+fn check(
+    asker: Asker,
+    file: &[u32],
+    bound: u32,
+    offered: &[u32],
+    answer: &mut [u32],
+    work: &mut [u32],
+) {
+    let o = checked(asker, file, bound, offered, answer, work);
     report(o, 0, part::front(offered, 0), answer, work);
 }
 
@@ -171,12 +212,26 @@ fn lend_search(
     );
 }
 
-fn lend_check(file: &[u32], bound: u32, offered: &[u32], answers: usize, works: usize) {
+fn lend_check(
+    asker: Asker,
+    file: &[u32],
+    bound: u32,
+    offered: &[u32],
+    answers: usize,
+    works: usize,
+) {
     let mut answer = long_buffer();
     let mut work = long_buffer();
     let a = least(answers, 20000);
     let w = least(works, 20000);
-    check(file, bound, offered, &mut answer[..a], &mut work[..w]);
+    check(
+        asker,
+        file,
+        bound,
+        offered,
+        &mut answer[..a],
+        &mut work[..w],
+    );
 }
 
 fn lend_proof(
@@ -207,12 +262,13 @@ fn answer_search(run: Run, line: &[u8], values: &[usize]) {
     );
 }
 
-fn answer_check(line: &[u8], values: &[usize]) {
+fn answer_check(asker: Asker, line: &[u8], values: &[usize]) {
     let mut space = file_buffer();
     let n = piece::gather(line, request::place(values, 4), &mut space);
     let mut proof = proof_buffer();
     let m = piece::gather(line, request::place(values, 3), &mut proof);
     lend_check(
+        asker,
         part::front(&space, n),
         request::word(values, 0),
         part::front(&proof, m),
@@ -444,82 +500,124 @@ fn value_buffer() -> [usize; 8]
     [0; 8]
 }
 
-fn answer_request(line: &[u8]) {
-    let mut values = value_buffer();
-    if request::asks(line, b"lookup", b"nw", &[ANY, FILE], &mut values) {
-        answer_lookup(line, &values);
-        return;
+// The verbs that are asked as a search is; whether the line was one of them.
+fn answer_searches(line: &[u8], values: &mut [usize]) -> bool {
+    if asks_search(line, b"search", values) {
+        answer_search(Run::Search, line, values);
+        return true;
     }
-    if request::asks(
+    if asks_search(line, b"smallest", values) {
+        answer_search(Run::Smallest, line, values);
+        return true;
+    }
+    if asks_search(line, b"edu-search", values) {
+        answer_search(Run::Education, line, values);
+        return true;
+    }
+    false
+}
+
+fn asks_search(line: &[u8], verb: &[u8], values: &mut [usize]) -> bool {
+    request::asks(
         line,
-        b"search",
+        verb,
         b"nnnnnw",
         &[ANY, ANY, LONG, PROOF, LONG, FILE],
-        &mut values,
-    ) {
-        answer_search(Run::Search, line, &values);
-        return;
+        values,
+    )
+}
+
+// The verbs that are asked as a check is.
+fn answer_checks(line: &[u8], values: &mut [usize]) -> bool {
+    if asks_check(line, b"check", values) {
+        answer_check(Asker::Collections, line, values);
+        return true;
     }
-    if request::asks(
-        line,
-        b"smallest",
-        b"nnnnnw",
-        &[ANY, ANY, LONG, PROOF, LONG, FILE],
-        &mut values,
-    ) {
-        answer_search(Run::Smallest, line, &values);
-        return;
+    if asks_check(line, b"edu-check", values) {
+        answer_check(Asker::Education, line, values);
+        return true;
     }
-    if request::asks(
+    false
+}
+
+fn asks_check(line: &[u8], verb: &[u8], values: &mut [usize]) -> bool {
+    request::asks(
         line,
-        b"check",
+        verb,
         b"nnnww",
         &[ANY, LONG, LONG, OFFERED, FILE],
-        &mut values,
-    ) {
-        answer_check(line, &values);
-        return;
+        values,
+    )
+}
+
+// The verbs of a table.
+fn answer_tables(line: &[u8], values: &mut [usize]) -> bool {
+    if request::asks(line, b"lookup", b"nw", &[ANY, FILE], values) {
+        answer_lookup(line, values);
+        return true;
     }
-    if request::asks(line, b"slim", b"nnw", &[FILE, NUMBERS, FILE], &mut values) {
-        answer_slim(line, &values);
-        return;
+    if request::asks(line, b"slim", b"nnw", &[FILE, NUMBERS, FILE], values) {
+        answer_slim(line, values);
+        return true;
     }
     if request::asks(
         line,
         b"desk",
         b"nnnnnr",
         &[ANY, ANY, ANY, ANY, ANY, RECORDS],
-        &mut values,
+        values,
     ) {
-        answer_desk(line, &values);
-        return;
+        answer_desk(line, values);
+        return true;
     }
     if request::asks(
         line,
         b"season",
         b"nnnwww",
         &[LONG, PROOF, LONG, ENTRIES, FILE, FILE],
-        &mut values,
+        values,
     ) {
-        answer_season(line, &values);
-        return;
+        answer_season(line, values);
+        return true;
     }
-    if request::asks(line, b"tptp-in", b"nb", &[FILE, TEXT], &mut values) {
-        answer_text(line, &values);
-        return;
+    false
+}
+
+// The verbs of text.
+fn answer_texts(line: &[u8], values: &mut [usize]) -> bool {
+    if request::asks(line, b"tptp-in", b"nb", &[FILE, TEXT], values) {
+        answer_text(line, values);
+        return true;
     }
-    if request::asks(line, b"tptp-out", b"nw", &[TEXT, FILE], &mut values) {
-        answer_written(line, &values);
-        return;
+    if request::asks(line, b"tptp-out", b"nw", &[TEXT, FILE], values) {
+        answer_written(line, values);
+        return true;
     }
     if request::asks(
         line,
         b"listing",
         b"nnnww",
         &[ANY, LONG, TEXT, OFFERED, FILE],
-        &mut values,
+        values,
     ) {
-        answer_listing(line, &values);
+        answer_listing(line, values);
+        return true;
+    }
+    false
+}
+
+fn answer_request(line: &[u8]) {
+    let mut values = value_buffer();
+    if answer_searches(line, &mut values) {
+        return;
+    }
+    if answer_checks(line, &mut values) {
+        return;
+    }
+    if answer_tables(line, &mut values) {
+        return;
+    }
+    if answer_texts(line, &mut values) {
         return;
     }
     io::write_all(STDOUT_FILENO, b"error\n");

@@ -168,7 +168,7 @@ module _ {own : List ℕ} (c : IsClause own) where
     unfolding clauseWords
     counted =
         let h = c .within in
-        let count = clause-literals (length (clauseOf own .literals)) (clauseOf own .variables) (length (literalsWords (clauseOf own .literals))) (omega (arith, h .few)) (omega (arith, h .variables)) (omega (arith, h .follow)) in
+        let count = clause-literals (length (clauseOf own .literals)) (clauseOf own .variables) (length (literalsWords (clauseOf own .literals))) (omega (arith, h .few)) (omega (arith, h .variables)) (omega (arith, h .follow)) (clauseOf own .restricted) in
         sym (e ∙ ap (λ (ws : List ℕ). literalsOf (getD ws 0 0)) (c .words) ∙ count)
 
     abbrev all-here : LiteralsHere own 1 n

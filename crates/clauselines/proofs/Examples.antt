@@ -20,10 +20,10 @@ literal negative predicate arguments = record { negative = negative; predicate =
 
 -- the clause of the order's own sentence
 abbrev told : Clause
-told = record { variables = 1; literals = literal false 1 (app 1 nil then app 2 nil then nil) ∷ literal true 2 (var 0 then nil) ∷ [] }
+told = record { restricted = false; variables = 1; literals = literal false 1 (app 1 nil then app 2 nil then nil) ∷ literal true 2 (var 0 then nil) ∷ [] }
 
 abbrev asked : Clause
-asked = record { variables = 0; literals = literal true 1 (app 1 nil then nil) ∷ [] }
+asked = record { restricted = false; variables = 0; literals = literal true 1 (app 1 nil then nil) ∷ [] }
 
 pub order's-own : clauseText 0 false told ≡ bytes "cnf(c0,axiom,(p1(f1,f2) | ~ p2(X0))).\n"
 unfolding opened

@@ -45,7 +45,7 @@ module _ {file : List ℕ} {at : ℕ} (c : Clause) (h : ClauseWithin c) (s : Sta
   own-length : followingOf (getD file at 0) + 1 ≡ length (clauseWords c)
   unfolding clauseWords
   own-length =
-      let e = clause-following (length (c .literals)) (c .variables) (length (literalsWords (c .literals))) (omega (arith, h .few)) (omega (arith, h .variables)) (omega (arith, h .follow)) in
+      let e = clause-following (length (c .literals)) (c .variables) (length (literalsWords (c .literals))) (omega (arith, h .few)) (omega (arith, h .variables)) (omega (arith, h .follow)) (c .restricted) in
       rw (stand-word s, e) (add-one (length (literalsWords (c .literals))))
 
   clause-within : at + length (clauseWords c) ≤ length file

@@ -30,7 +30,7 @@ fact-words day house (suc (suc zero)) l m = refl
 fact-words day house (suc (suc (suc n))) l m = absurd (omega arith)
 
 pub either-words : (day house : ℕ)
-    → clauseWord 2 0 8 ∷ literalWord false 1 3 ∷ functionWord day 0 ∷ functionWord (1000 + house) 0 ∷ functionWord 2001 0
+    → clauseWord false 2 0 8 ∷ literalWord false 1 3 ∷ functionWord day 0 ∷ functionWord (1000 + house) 0 ∷ functionWord 2001 0
     ∷ literalWord false 1 3 ∷ functionWord day 0 ∷ functionWord (1000 + house) 0 ∷ functionWord 2002 0 ∷ [] ≡ clauseWords (clauseFor (recordOf day house 3))
 unfolding opened
 either-words day house = refl
@@ -110,6 +110,10 @@ module _ {d h : ℕ} (few : d ≤ 366) (houses : h ≤ 999) where
   unfolding question Each
   question-negative s = (refl, tt)
 
+  question-unmarked : (s : Slot) → question d h s .restricted ≡ false
+  unfolding question
+  question-unmarked s = refl
+
 each-snoc : (cs : List Clause) (c : Clause) → Each ClauseWithin cs → ClauseWithin c → Each ClauseWithin (cs ++ (c ∷ []))
 unfolding Each
 each-snoc [] c h k = (k, tt)
@@ -149,5 +153,6 @@ file-within ws day house s i d h =
         clauses = each-snoc (map clauseFor (recordsOf ws)) (question day house s) (records-within ws (i .in-range)) (question-within d h s);
       };
       question = question-negative d h s;
+      unmarked = question-unmarked d h s;
       short = omega (arith, body-length ws day house s, records-short ws, i .few);
     }

@@ -19,13 +19,13 @@ use Rattle.desk.proofs.Words.{records-short, records-counted, question-
 
 -- the words of a clause with one literal, and of the two alternatives, as they are put together
 module _ (day house : ℕ) {on place : ℕ} (d : on ≡ functionWord day 0) (h : place ≡ functionWord (1000 + house) 0) where
-  pub single-words : (variables : ℕ) (negative : Bool) {clause literal slot : ℕ} → variables ≤ 1 → clause ≡ clauseWord 1 (variables % 2 ^ 5) 4
+  pub single-words : (variables : ℕ) (negative : Bool) {clause literal slot : ℕ} → variables ≤ 1 → clause ≡ clauseWord false 1 (variables % 2 ^ 5) 4
       → literal ≡ literalWord negative 1 3 → clause ∷ literal ∷ on ∷ place ∷ slot ∷ [] ≡ singleWords negative variables day house slot
   single-words variables negative few c l =
       let v : variables % 2 ^ 5 ≡ variables = mod-eq-of-lt (omega arith) in
       rw (c, v, l, d, h)
 
-  pub two-words : {clause literal one two : ℕ} → clause ≡ clauseWord 2 0 8 → literal ≡ literalWord false 1 3 → one ≡ functionWord 2001 0
+  pub two-words : {clause literal one two : ℕ} → clause ≡ clauseWord false 2 0 8 → literal ≡ literalWord false 1 3 → one ≡ functionWord 2001 0
       → two ≡ functionWord 2002 0 → clause ∷ literal ∷ on ∷ place ∷ one ∷ literal ∷ on ∷ place ∷ two ∷ [] ≡ clauseWords (clauseFor (recordOf day house 3))
   two-words c l m n = rw (c, l, d, h, m, n) (either-words day house)
 

@@ -50,7 +50,7 @@ pub record Fronts (file : List ℕ) (words : List ℕ) (count : ℕ) (after : Li
 -- a clause with one literal
 abbrev pub singleWords : Bool → ℕ → ℕ → ℕ → ℕ → List ℕ
 singleWords negative variables day house slot =
-    clauseWord 1 variables 4 ∷ literalWord negative 1 3 ∷ functionWord day 0 ∷ functionWord (1000 + house) 0 ∷ slot ∷ []
+    clauseWord false 1 variables 4 ∷ literalWord negative 1 3 ∷ functionWord day 0 ∷ functionWord (1000 + house) 0 ∷ slot ∷ []
 
 abbrev pub recordOf : ℕ → ℕ → ℕ → Record
 recordOf day house slot = record { day = day; house = house; slot = slotOf slot }

@@ -26,7 +26,7 @@ alternatives day house evening = at-literal false day house theEvening ∷ []
 alternatives day house either = at-literal false day house theMatinee ∷ at-literal false day house theEvening ∷ []
 
 unfoldable pub clauseFor : Record → Clause
-clauseFor r = record { variables = 0; literals = alternatives (r .day) (r .house) (r .slot) }
+clauseFor r = record { restricted = false; variables = 0; literals = alternatives (r .day) (r .house) (r .slot) }
 
 -- what is asked: matinee, evening, or a variable for any slot
 unfoldable pub askedSlot : Slot → Term ℕ
@@ -41,7 +41,7 @@ askedVariables either = 1
 
 unfoldable pub question : ℕ → ℕ → Slot → Clause
 question day house asked =
-    record { variables = askedVariables asked; literals = at-literal true day house (askedSlot asked) ∷ [] }
+    record { restricted = false; variables = askedVariables asked; literals = at-literal true day house (askedSlot asked) ∷ [] }
 
 unfoldable pub deskTable : List Record → ℕ → ℕ → Slot → Table
 deskTable rs day house asked = record { clauses = map clauseFor rs; question = question day house asked }

@@ -37,7 +37,7 @@ fn put_single(
     ensures { λ r. ⌜ Puts (now (file .entry)) at (singleWords negative variables day house slot) r (now (file .exit)) ⌝ }
 {
     let words = [
-        fields::clause_word(1, variables, 4),
+        fields::clause_word(false, 1, variables, 4),
         fields::literal_word(negative, 1, 3),
         constant(day),
         constant(1000 + house),
@@ -56,7 +56,7 @@ fn put_either(file: &mut [u32], at: usize, day: u32, house: u32) -> usize
     let day_word = constant(day);
     let house_word = constant(1000 + house);
     let words = [
-        fields::clause_word(2, 0, 8),
+        fields::clause_word(false, 2, 0, 8),
         sign,
         day_word,
         house_word,

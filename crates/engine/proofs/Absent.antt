@@ -105,7 +105,7 @@ module _ (clause number : ℕ) where
       let gone = passed-by (isEntry clause number s w) s (entryFrom clause number (pastWord s w) ws) d in
       let first = first-clause w ws at b in
       let sound = sound-clause w ws (first .0) in
-      lacks-clause w ws s (plain-kind 3 16 w (clause-plain w (sound .shaped)))
+      lacks-clause w ws s (plain-kind 3 17 w (clause-plain w (sound .shaped)))
       (lacking ws (followingOf w) (variablesOf w) (literalsOf w) 0 1 (at + 1) (pastWord s w) (sound .sound) (first .1) (gone .1))
 
   pub no-entry : (body : List ℕ) → Readable body → entryFrom clause number begun body ≡ Done

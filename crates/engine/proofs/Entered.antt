@@ -134,7 +134,7 @@ module _ (f after : List ℕ) (w : ℕ) (kind : kindOf w ≡ 2) (post : List ℕ
         let ws = pre ++ w ∷ post in
         let first = first-clause x ws (before .at) b in
         let sound = sound-clause x ws (first .0) in
-        let past = past-clause before x refl (plain-kind 3 16 x (clause-plain x (sound .shaped))) in
+        let past = past-clause before x refl (plain-kind 3 17 x (clause-plain x (sound .shaped))) in
         elim
         (further (variablesOf x) (literalsOf x) 0 1 (followingOf x) _ (rw (← past) at es) (place-next f (before .at) x (ws ++ after) ef) (sound .sound) (first .1)) [
           | inl h ↦ record { index = 0; clause = omega (arith, h .clause); placed = rw (h .start); later = omega (arith, h .place, h .start); offset = entered f after (before .at) x ws ef sound h }
@@ -145,7 +145,7 @@ module _ (f after : List ℕ) (w : ℕ) (kind : kindOf w ≡ 2) (post : List ℕ
   unfolding pastWords bodyFault
   finds [] v l t place zero before es ef e b =
       let sound = sound-clause w post (first-clause w post (before .at) b .0) in
-      absurd (omega (arith, plain-kind 3 16 w (clause-plain w (sound .shaped))))
+      absurd (omega (arith, plain-kind 3 17 w (clause-plain w (sound .shaped))))
   finds [] v l t place (suc n) before es ef e b = inl (rw (← es) (at-once (take n post)))
   finds (x ∷ pre) v l t place (suc n) before es ef e b =
       through x pre (finds pre) n before es ef (sound-word v place x (take n (pre ++ w ∷ post)) l t e) b

@@ -90,7 +90,7 @@ module _ (u : ℕ) (shaped : literalShaped u ≡ true) (small : u < 2 ^ 32) (σ 
   lists (w ∷ ws) zero v l t place at s words e b =
       let first = first-clause w ws at b in
       let sound = sound-clause w ws (first .0) in
-      clause-listed w ws s (plain-kind 3 16 w (clause-plain w (sound .shaped)))
+      clause-listed w ws s (plain-kind 3 17 w (clause-plain w (sound .shaped)))
       (lists ws (followingOf w) _ _ 0 1 (at + 1) (pastWord s w) (words .1) (sound .sound) (first .1))
 
   pub extensions-listed : (body : List ℕ) → Words body → Readable body

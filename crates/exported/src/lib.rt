@@ -11,6 +11,7 @@ ghost use mathlib.Core.Path.{_≡_};
 ghost use lib.ListN.{length};
 ghost use Rattle.hukolearu.specs.Door.{workAfter};
 ghost use Rattle.hukolearu.specs.Calls.{searchCall, searchWith, checkCall, checkWith, atFront};
+ghost use Rattle.education.specs.Education.{educationSearch, educationCheck};
 ghost use Rattle.season.specs.Season.{seasonWith, reportOf, proofAfter, answerAfter, workLeft};
 ghost use Rattle.slim.specs.Call.{slimCall};
 ghost use Rattle.desk.specs.Desk.{deskSays, valuesOf};
@@ -49,6 +50,38 @@ pub extern "C" fn hukolearu_check_proof(
     ensures { λ _. ⌜ now (work .exit) ≡ workAfter (now (work .entry)) ⌝ }
 {
     calls::check_proof(file, bound, offered, answer, work)
+}
+
+#[no_mangle]
+pub extern "C" fn hukolearu_education_search(
+    file: &[u32],
+    bound: u32,
+    budget: u32,
+    proof: &mut [u32],
+    answer: &mut [u32],
+    work: &mut [u32],
+) -> Outcome
+    ensures { λ r. ⌜ r ≡ educationSearch (searchWith (now (file .entry)) bound budget (now (proof .entry)) (now (answer .entry)) (now (work .entry))) .outcome ⌝ }
+    ensures { λ _. ⌜ now (proof .exit) ≡ atFront (educationSearch (searchWith (now (file .entry)) bound budget (now (proof .entry)) (now (answer .entry)) (now (work .entry))) .proof) (now (proof .entry)) ⌝ }
+    ensures { λ _. ⌜ now (answer .exit) ≡ atFront (educationSearch (searchWith (now (file .entry)) bound budget (now (proof .entry)) (now (answer .entry)) (now (work .entry))) .answer) (now (answer .entry)) ⌝ }
+    ensures { λ _. ⌜ now (work .exit) ≡ workAfter (now (work .entry)) ⌝ }
+{
+    education::search(file, bound, budget, proof, answer, work)
+}
+
+#[no_mangle]
+pub extern "C" fn hukolearu_education_check(
+    file: &[u32],
+    bound: u32,
+    offered: &[u32],
+    answer: &mut [u32],
+    work: &mut [u32],
+) -> Outcome
+    ensures { λ r. ⌜ r ≡ educationCheck (checkWith (now (file .entry)) bound (now (offered .entry)) (now (answer .entry)) (now (work .entry))) .outcome ⌝ }
+    ensures { λ _. ⌜ now (answer .exit) ≡ atFront (educationCheck (checkWith (now (file .entry)) bound (now (offered .entry)) (now (answer .entry)) (now (work .entry))) .answer) (now (answer .entry)) ⌝ }
+    ensures { λ _. ⌜ now (work .exit) ≡ workAfter (now (work .entry)) ⌝ }
+{
+    education::check_proof(file, bound, offered, answer, work)
 }
 
 #[no_mangle]

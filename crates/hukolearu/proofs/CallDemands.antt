@@ -15,7 +15,7 @@ use Rattle.words.specs.declared.Step.{Step}
 use Rattle.table.specs.File.{tableIn}
 use Rattle.table.specs.Limits.{Within}
 use Rattle.table.specs.Syntax.{Table, allClauses}
-use Rattle.rules.specs.Setting.{Setting, base}
+use Rattle.rules.specs.Setting.{Profile, everyLeaf, Setting, over}
 use Rattle.rules.specs.Tableau.{Tableau, start, Closed}
 use Rattle.rules.specs.Order.{Ending, found, nothing, Searched, First}
 use Rattle.rules.specs.Truth.{Interpretation, AllNegative, AllHold, TrueAnswer}
@@ -192,13 +192,13 @@ accepted-answers-hold I a ok hold z =
     checked-holds I (checkSetting a) (accepted-within (a .file) (ok .good-file)) (ok .low-bound) (asks-negative (a .file) (ok .good-file)) hold (check-says a ok) z
 
 -- a larger budget
-behind-either : (x : Option Fault) {g h : Given} → (g .outcome .status ≢ 11 → h ≡ g) → behind x Calls.refusedBy g .outcome .status ≢ 11
+pub behind-either : (x : Option Fault) {g h : Given} → (g .outcome .status ≢ 11 → h ≡ g) → behind x Calls.refusedBy g .outcome .status ≢ 11
     → behind x Calls.refusedBy h ≡ behind x Calls.refusedBy g
 unfolding behind
 behind-either none same n = same n
 behind-either (some fault) same n = refl
 
-out-status : (S : Setting) (room budget : ℕ) → searchFor S budget ≡ runs-out budget → searchGiven S room (searchFor S budget) .outcome .status ≡ 11
+pub out-status : (S : Setting) (room budget : ℕ) → searchFor S budget ≡ runs-out budget → searchGiven S room (searchFor S budget) .outcome .status ≡ 11
 unfolding searchGiven
 out-status S room budget e = rw e
 
@@ -218,14 +218,14 @@ never-none a b ok ok′ grown l once =
     some-said (searchSetting b) (search-says b ok′) (map (moved grown) (c .0)) e
 
 -- a proof's words, its clause numbers moved along
-module _ {t u : Table} (grown : Larger t u) (few : length (allClauses u) ≤ 512) {bound : ℕ} (low : bound ≤ 32) where
-  words-moved : (ws : List ℕ) → All (InRange (base u bound)) (map (moved grown) (map stepOf ws))
+module _ (rules : Profile) {t u : Table} (grown : Larger t u) (few : length (allClauses u) ≤ 512) {bound : ℕ} (low : bound ≤ 32) where
+  words-moved : (ws : List ℕ) → All (InRange (over rules u bound)) (map (moved grown) (map stepOf ws))
       → map stepOf (map (Demands.movedWord grown) ws) ≡ map (moved grown) (map stepOf ws)
   unfolding All
   words-moved [] r = refl
   words-moved (w ∷ ws) r =
       let s = moved grown (stepOf w) in
-      rw (decode-encode s (formed (base u bound) few low s (r .0)), words-moved ws (r .1))
+      rw (decode-encode s (formed (over rules u bound) few low s (r .0)), words-moved ws (r .1))
 
 answers-again : {t u : Table} {x y : Tableau} {count : ℕ} {words : List ℕ} → x ≡ y → t .question ≡ u .question
     → Answers t x count words → Answers u y count words
@@ -236,30 +236,30 @@ answers-again {t} {u} {x} {y} e same a = record {
   written = a .written ∙ ap (answerWords (a .by) t) e ∙ sym (same-words (a .by) t u y same);
 }
 
-module _ {t u : Table} (grown : Larger t u) (limits : Within u) {bound higher : ℕ} (low : higher ≤ 32) (l : bound ≤ higher) (offered : List ℕ) where
-  said-again : {room room′ : ℕ} {g : Given} → room ≤ room′ → CheckSays (base t bound) offered room g → g .outcome .status ≡ 0
-      → CheckSays (base u higher) (map (Demands.movedWord grown) offered) room′ g
+module _ (rules : Profile) {t u : Table} (grown : Larger t u) (limits : Within u) {bound higher : ℕ} (low : higher ≤ 32) (l : bound ≤ higher) (offered : List ℕ) where
+  pub said-again : {room room′ : ℕ} {g : Given} → room ≤ room′ → CheckSays (over rules t bound) offered room g → g .outcome .status ≡ 0
+      → CheckSays (over rules u higher) (map (Demands.movedWord grown) offered) room′ g
   unfolding closed-of
   said-again more (not-closed {why} d) z = absurd (unaccepted why (inl z))
   said-again more (closed-too-long d a f) z = absurd (omega arith)
   said-again {room} {room′} more (closed-fitting {x} {count} {words} d a f) z =
-      let c = closed-of (base t bound) offered d in
+      let c = closed-of (over rules t bound) offered d in
       let g = larger-table grown c in
       let h = larger-bound l (g .0) in
       let same : map stepOf (map (Demands.movedWord grown) offered) ≡ map (moved grown) (map stepOf offered) =
-      words-moved grown (limits .few) low offered (step-numbers (base u higher) (short-clauses (allClauses u) (limits .clauses)) (h .0)) in
+      words-moved rules grown (limits .few) low offered (step-numbers (over rules u higher) (short-clauses (allClauses u) (limits .clauses)) (h .0)) in
       let e : x ≡ h .0 .tableau = sym (h .1 ∙ g .1) in
       let b : Answers u (h .0 .tableau) count words =
       answers-again e (grown .question) a in
-      let k : Checks (base u higher) (start u) 0 (map stepOf (map (Demands.movedWord grown) offered)) (accepted (h .0 .tableau)) =
-      rw same (closed-accepted (base u higher) (h .0)) in
+      let k : Checks (over rules u higher) (start u) 0 (map stepOf (map (Demands.movedWord grown) offered)) (accepted (h .0 .tableau)) =
+      rw same (closed-accepted (over rules u higher) (h .0)) in
       rw (← length-map offered (Demands.movedWord grown)) (closed-fitting k b (omega arith))
 
 pub accepted-once-more : Demands.AcceptedOnceMore
 accepted-once-more a b ok ok′ grown l more same z =
     let room : roomOf (a .answerRoom) ≤ roomOf (b .answerRoom) = omega arith in
     let says : CheckSays (checkSetting b) (b .offered) (roomOf (b .answerRoom)) (checkCall a) =
-    rw same (said-again grown (accepted-within (b .file) (ok′ .good-file)) (ok′ .low-bound) l (a .offered) room (check-says a ok) z) in
+    rw same (said-again everyLeaf grown (accepted-within (b .file) (ok′ .good-file)) (ok′ .low-bound) l (a .offered) room (check-says a ok) z) in
     one-check-outcome (checkSetting b) (b .offered) (roomOf (b .answerRoom)) (check-says b ok′) says
 
 -- the door opens exactly where the call passes all checks of input

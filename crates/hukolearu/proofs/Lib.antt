@@ -2,6 +2,7 @@ pub mod DoorLaws
 pub mod Accepts
 pub mod Says
 pub mod CallDemands
+pub mod DemandsOf
 pub mod CallsTold
 pub mod Unique
 pub mod CallCases

@@ -43,7 +43,7 @@ proofCheck least proof = refusedIf (ltb proof least) Status.proofTooShort
 abbrev pub boundCheck : ℕ → Check
 boundCheck bound = refusedIf (ltb 32 bound) Status.boundTooHigh
 
--- 4 to 9: the file's own refusal
+-- 4 to 9 and 21: the file's own refusal
 abbrev pub fileCheck : List ℕ → Check
 fileCheck file = cond (eqb (judge file .status) 0) none (some (record { status = judge file .status; place = judge file .place }))
 

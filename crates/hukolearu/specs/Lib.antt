@@ -3,6 +3,7 @@ pub mod Door
 pub mod Calls
 pub mod Says
 pub mod CallDemands
+pub mod DemandsOf
 pub mod Enums
 pub mod Telling
 pub mod Cases

@@ -1,5 +1,5 @@
 -- The statuses that the calls give of themselves, each named once with its number (document 01, "What comes back").
--- Statuses 4 to 9 are the file's own (`table/File.judge`), 12 to 15 and 20 the checker's (`rules/Verdict.statusOf`).
+-- Statuses 4 to 9 and 21 are the file's own (`table/File.judge`), 12 to 15 and 20 the checker's (`rules/Verdict.statusOf`).
 use Prim.Native.Nat.{ℕ}
 
 abbrev pub done : ℕ

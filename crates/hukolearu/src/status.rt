@@ -1,4 +1,4 @@
-// The statuses that the calls give of themselves; 4 to 9 are the file's own, 12 to 15 and 20 the checker's.
+// The statuses that the calls give of themselves; 4 to 9 and 21 are the file's own, 12 to 15 and 20 the checker's.
 pub const DONE: u32 = 0;
 
 pub const WORK_TOO_SHORT: u32 = 1;

@@ -12,7 +12,7 @@ use Prim.Native.Nat.{ℕ}
 use Rattle.words.specs.Steps.{stepOf, stepWord}
 use Rattle.words.specs.declared.Step.{Step}
 use Rattle.table.specs.Body.{bodyFault, anyPositive}
-use Rattle.table.specs.File.{bodyOf, sizeFits, trailerFits, fingerprintFits, clausesFit, questionWords, judgeRead, judgeBody, judge, tableIn}
+use Rattle.table.specs.File.{bodyOf, sizeFits, trailerFits, fingerprintFits, clausesFit, questionWords, questionRestricted, judgeRead, judgeBody, judge, tableIn}
 use Rattle.table.specs.declared.Judgement.{Judgement}
 use Rattle.table.specs.Limits.{Within, FileWithin, Words}
 use Rattle.table.specs.Syntax.{Table, allClauses}
@@ -54,7 +54,10 @@ either false x y h k = k
 read-other : (file : List ℕ) (o : Option ℕ) → Other (judgeRead file o .status)
 unfolding judgeRead
 read-other file (some place) = λ e. omega arith
-read-other file none = either (clausesFit file) _ _ (either (anyPositive (questionWords file)) _ _ (λ e. omega arith) (λ e. omega arith)) (λ e. omega arith)
+read-other file none =
+    either (clausesFit file) _ _
+    (either (anyPositive (questionWords file)) _ _ (λ e. omega arith) (either (questionRestricted file) _ _ (λ e. omega arith) (λ e. omega arith)))
+    (λ e. omega arith)
 
 judged-other : (file : List ℕ) → Other (judge file .status)
 unfolding judge judgeBody

@@ -203,6 +203,7 @@ module _ (t : Table) (steps : List Step) where
       record {
         table = listed-within (h .table);
         question = h .question;
+        unmarked = h .unmarked;
         short = omega (
           arith,
           h .short,

@@ -71,10 +71,10 @@ spareCheck = record { file = spare; bound = 2; offered = 0x40000001 ∷ 0x400000
 
 -- p(a), and r
 abbrev pub fact : Clause
-fact = record { variables = 0; literals = record { negative = false; predicate = 1; arguments = app 1 nil then nil } ∷ [] }
+fact = record { restricted = false; variables = 0; literals = record { negative = false; predicate = 1; arguments = app 1 nil then nil } ∷ [] }
 
 abbrev pub unused : Clause
-unused = record { variables = 0; literals = record { negative = false; predicate = 3; arguments = nil } ∷ [] }
+unused = record { restricted = false; variables = 0; literals = record { negative = false; predicate = 3; arguments = nil } ∷ [] }
 
 -- What is listed: clause 1 with two copies and the question with one, two extensions and the start; over the listed alone p(a) is clause 0.
 pub record SpareListed : Type 0 where

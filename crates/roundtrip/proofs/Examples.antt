@@ -11,6 +11,7 @@ use Rattle.text.specs.Quoted.{bytes}
 use Rattle.text.specs.Digits.{digitsOf, significant}
 use Rattle.table.specs.Syntax.{var, app, nil, _then_, Table}
 use Rattle.table.specs.Encode.{fileWords}
+use Rattle.table.specs.Seen.{unrestrictedOf}
 use Rattle.table.specs.Limits.{Each, Words}
 use Rattle.table.specs.File.{judge, tableIn}
 use Rattle.table.proofs.Bools.{and-left, and-right}
@@ -96,6 +97,24 @@ pub back-so : AlreadySo (tableIn back)
 unfolding AlreadySo renumbering
 back-so = refl
 
+-- with a clause restricted it is accepted, is not so, and comes back with the mark off
+abbrev marked : List ℕ
+marked =
+    0xC0010612 ∷ 0x80002000 ∷ 0x40001000 ∷ 0x00000000 ∷ 0x40000000 ∷ 0x80009001 ∷ 0x00000001 ∷ 0xC0000602 ∷ 0x8000A000 ∷ 0x40000001 ∷ 0x40000000
+    ∷ 0x80009001 ∷ 0x40001000 ∷ 0x40000001 ∷ 0x00000007 ∷ 0x00000002 ∷ 0xDB446809 ∷ 0x0000000E ∷ []
+
+pub marked-accepted : judge marked .status ≡ 0
+unfolding opened
+marked-accepted = refl
+
+pub marked-not-so : AlreadySo (tableIn marked) → ⊥
+unfolding AlreadySo renumbering
+marked-not-so so = let e : _≡_ {A = ℕ} 1 0 = ap (λ (t : Table). length (unrestrictedOf (t .clauses))) so in omega arith
+
+pub marked-back : fileWords (renumbered (tableIn marked)) ≡ back
+unfolding renumbering
+marked-back = refl
+
 back-text : length (tableText (tableIn back)) ≡ 99
 unfolding opened
 back-text = refl
@@ -146,8 +165,8 @@ playing = tt
 abbrev gappy : Table
 gappy =
     record {
-      clauses = record { variables = 5; literals = record { negative = false; predicate = 7; arguments = app 9 (var 3 then nil) then app 9 nil then nil } ∷ [] } ∷ [];
-      question = record { variables = 3; literals = record { negative = true; predicate = 7; arguments = var 2 then app 9 nil then nil } ∷ [] };
+      clauses = record { restricted = false; variables = 5; literals = record { negative = false; predicate = 7; arguments = app 9 (var 3 then nil) then app 9 nil then nil } ∷ [] } ∷ [];
+      question = record { restricted = false; variables = 3; literals = record { negative = true; predicate = 7; arguments = var 2 then app 9 nil then nil } ∷ [] };
     }
 
 abbrev found : List ℕ → Returned

@@ -44,6 +44,7 @@ module _ (p f : ℕ → ℕ) where
     clause-in-order = record {
       numbers = each-all (variableUses (c .literals)) (shown-variables p (λ n. n) f (λ n. n) (numberIn (variables c)) (λ x. x) (c .literals) literals-back);
       count = sym (ap (λ (d : Clause). d .variables) e);
+      unmarked = sym (ap (λ (d : Clause). d .restricted) e);
     }
 
   all-predicates : (cs : List Clause) → map (renumberedClause p f) cs ≡ cs → All (Own p) (ofAll predicateUses cs)
@@ -65,7 +66,7 @@ module _ (p f : ℕ → ℕ) where
   clause-so : (c : Clause) → All (Own p) (predicateUses (c .literals)) → All (Own f) (functionUses (c .literals)) → ClauseInOrder c → renumberedClause p f c ≡ c
   unfolding renumberedClause OwnNumbers
   clause-so c ps fs o =
-      clause-made (sym (o .count))
+      clause-made (sym (o .unmarked)) (sym (o .count))
       (agree-literals f (λ n. n) (numberIn (variables c)) (λ x. x) p (λ n. n) (c .literals) ps fs (all-each (Own (numberIn (variables c))) (variableUses (c .literals)) (o .numbers))
       ∙ literals-unchanged (c .literals))
 

@@ -1,5 +1,5 @@
 -- The renumbered table is within document 01's limits where the table is, and its file is as long.
-use mathlib.Core.Bool.{true}
+use mathlib.Core.Bool.{true, false}
 use mathlib.Core.List.{List, [], _∷_, map, map-append}
 use mathlib.Core.Path.{_≡_, refl, sym, ap, ap₂}
 use Prim.Native.Nat.{ℕ, suc, _+_, _^_, _≤_, _<_}
@@ -112,10 +112,19 @@ module _ (predicate function : ℕ → ℕ) where
 below-limit : (limit : ℕ) (uses : List ℕ) → All (λ n. n < limit) uses → All (λ n. numberIn (firstUses uses) n < limit) uses
 below-limit limit uses h = all-then (λ n k. omega (arith, few-uses limit uses h)) (uses-known uses)
 
+-- no mark is kept
+all-unmarked : (predicate function : ℕ → ℕ) (cs : List Clause) → Each (λ (c : Clause). c .restricted ≡ false) (map (renumberedClause predicate function) cs)
+unfolding renumberedClause Each
+all-unmarked predicate function [] = tt
+all-unmarked predicate function (c ∷ cs) = (refl, all-unmarked predicate function cs)
+
 module _ (t : Table) where
   pub all-renumbered : allClauses (renumbered t) ≡ map (renumberedClause (numberIn (predicates t)) (numberIn (functions t))) (allClauses t)
   unfolding allClauses renumbered
   all-renumbered = sym (map-append (renumberedClause (numberIn (predicates t)) (numberIn (functions t))) (t .clauses) (t .question ∷ []))
+
+  pub renumbered-unmarked : Each (λ (c : Clause). c .restricted ≡ false) (allClauses (renumbered t))
+  renumbered-unmarked = rw all-renumbered (all-unmarked (numberIn (predicates t)) (numberIn (functions t)) (allClauses t))
 
   pub renumbered-within : Within t → Within (renumbered t)
   renumbered-within h = record {
@@ -139,5 +148,6 @@ module _ (t : Table) where
   renumbered-file h = record {
     table = renumbered-within (h .table);
     question = signs-kept (numberIn (predicates t)) (numberIn (functions t)) (numberIn (variables (t .question))) (t .question .literals) (h .question);
+    unmarked = refl;
     short = omega (arith, body-long, h .short);
   }

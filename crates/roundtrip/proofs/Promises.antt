@@ -32,11 +32,11 @@ use Rattle.rules.specs.Answer.{disjuncts, joined, numbered, answerWords}
 use Rattle.rules.proofs.Reading.{answer-within}
 use Rattle.roundtrip.specs.Renumbered.{renumbered, AlreadySo}
 use Rattle.roundtrip.specs.Written.{tableWritten}
-use Rattle.roundtrip.specs.Promises.{TextSays, SaysRenumbered, RenumberedFits, ReadAs, Returns, ReadsBack, Written, textLeft, WrittenReadsBack, ComesBack, OnlyIfSo, SoWhereInOrder, TwiceIsOnce, SameVerdicts, SameProofs, SameFirst, SameProofsReadBack, answerRenumbered, SameAnswers}
+use Rattle.roundtrip.specs.Promises.{TextSays, SaysRenumbered, RenumberedFits, ReadAs, Returns, ReadsBack, Written, textLeft, WrittenReadsBack, ComesBack, OnlyIfSo, SoWhereInOrder, MarksOff, TwiceIsOnce, SameVerdicts, SameProofs, SameFirst, SameProofsReadBack, answerRenumbered, SameAnswers}
 use Rattle.roundtrip.proofs.Spelling as Spelling
 use Rattle.roundtrip.proofs.Saying as Saying
 use Rattle.roundtrip.proofs.Saying.{one-question}
-use Rattle.roundtrip.proofs.Limits.{file-long, renumbered-file}
+use Rattle.roundtrip.proofs.Limits.{file-long, renumbered-unmarked, renumbered-file}
 use Rattle.roundtrip.proofs.Twice as Twice
 use Rattle.roundtrip.proofs.InOrder as InOrder
 use Rattle.roundtrip.proofs.SameProofs as Proofs
@@ -154,6 +154,10 @@ comes-back file buffer a so r left = rw (so-words a so) at (back a r left)
 pub only-if-so : OnlyIfSo
 unfolding OnlyIfSo AlreadySo
 only-if-so file buffer a r left x same = sym (table-back a r left x) ∙ ap (λ (ws : List ℕ). tableIn ws) same
+
+pub marks-off : MarksOff
+unfolding MarksOff
+marks-off file buffer a r left x = rw (table-back a r left x) (renumbered-unmarked (tableIn file))
 
 pub same-verdicts : SameVerdicts
 unfolding SameVerdicts

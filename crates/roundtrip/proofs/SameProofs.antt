@@ -34,7 +34,7 @@ module _ (p f : ℕ → ℕ) (q g : Permutation ℕ) where
       → renumberedClause p f c ≡ turnedClause q g c
   unfolding renumberedClause turnedClause
   clause-turned c ps fs =
-      clause-made refl
+      clause-made refl refl
       (agree-literals f (g .to) (numberIn (variables c)) (own c .to) p (q .to) (c .literals) ps fs
       (agree-uses (variableUses (c .literals)) (own c) (numbering-known (variableUses (c .literals)))))
 

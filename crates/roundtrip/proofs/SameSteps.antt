@@ -28,7 +28,7 @@ own c = numbering (variableUses (c .literals))
 -- a clause and a table with other numbers
 unfoldable pub turnedClause : Permutation ℕ → Permutation ℕ → Clause → Clause
 turnedClause p f c =
-    record { variables = length (variables c); literals = map (renamedLiteral (p .to) (f .to) (own c .to)) (c .literals) }
+    record { restricted = false; variables = length (variables c); literals = map (renamedLiteral (p .to) (f .to) (own c .to)) (c .literals) }
 
 unfoldable pub turnedTable : Permutation ℕ → Permutation ℕ → Table → Table
 turnedTable p f t = record { clauses = map (turnedClause p f) (t .clauses); question = turnedClause p f (t .question) }

@@ -1,4 +1,5 @@
 -- The clauses written stand for the table renumbered.
+use mathlib.Core.Bool.{Bool}
 use mathlib.Core.List.{List, [], _∷_, _++_, map, map-append}
 use mathlib.Core.Path.{_≡_, refl, sym, ap, ap₂, _∙_}
 use Prim.Native.Nat.{ℕ, suc, _<_}
@@ -104,8 +105,9 @@ module _ (c : Clause) (h : ClauseWithin c) where
 abbrev bodyWritten : Clause → List LiteralSaid
 bodyWritten c = map literalWritten (c .literals)
 
-pub clause-made : {m n : ℕ} {ls ms : List (Literal ℕ)} → m ≡ n → ls ≡ ms → _≡_ {A = Clause} (record { variables = m; literals = ls }) (record { variables = n; literals = ms })
-clause-made e f = rw (e, f)
+pub clause-made : {a b : Bool} {m n : ℕ} {ls ms : List (Literal ℕ)} → a ≡ b → m ≡ n → ls ≡ ms
+    → _≡_ {A = Clause} (record { restricted = a; variables = m; literals = ls }) (record { restricted = b; variables = n; literals = ms })
+clause-made g e f = rw (g, e, f)
 
 -- terms, literals and clauses with numbers for their names
 module _ (ps fs : List Name) (predicate function : ℕ → ℕ)
@@ -133,7 +135,7 @@ module _ (ps fs : List Name) (predicate function : ℕ → ℕ)
   clause-same : (c : Clause) → ClauseWithin c → clauseSaid ps fs (map literalWritten (c .literals)) ≡ renumberedClause predicate function c
   unfolding clauseSaid renumberedClause
   clause-same c h =
-      clause-made (ap (λ (ns : List Name). length ns) (variables-known c h) ∙ length-map (variables c) variableName)
+      clause-made refl (ap (λ (ns : List Name). length ns) (variables-known c h) ∙ length-map (variables c) variableName)
       (literals-same (c .variables) (Said.variables (map literalWritten (c .literals))) (numberIn (variables c)) (variable-number c h) (c .literals) (h .literals))
 
   stated-same : (cs : List Clause) → Each ClauseWithin cs → clausesSaid ps fs (map bodyWritten cs) ≡ map (renumberedClause predicate function) cs

@@ -76,7 +76,7 @@ module _ (q p g f : ℕ → ℕ) where
       let v : ℕ → ℕ = numberIn (variables c) in
       let again : variableUses (map (renamedLiteral p f v) (c .literals)) ≡ map v (variableUses (c .literals)) = variable-uses-renamed p f v (c .literals) in
       let w : ℕ → ℕ = numberIn (firstUses (variableUses (map (renamedLiteral p f v) (c .literals)))) in
-      clause-made (ap (λ (ns : List ℕ). length (firstUses ns)) again ∙ as-many (variableUses (c .literals)))
+      clause-made refl (ap (λ (ns : List ℕ). length (firstUses ns)) again ∙ as-many (variableUses (c .literals)))
       (ap (λ (ns : List ℕ). map (renamedLiteral q g (numberIn (firstUses ns))) (map (renamedLiteral p f v) (c .literals))) again
       ∙ literals-in-turn g f (numberIn (firstUses (map v (variableUses (c .literals))))) v q p (c .literals)
       ∙ agree-literals (λ n. g (f n)) f (λ n. numberIn (firstUses (map v (variableUses (c .literals)))) (v n)) v (λ n. q (p n)) p (c .literals) ps fs (each-own (variableUses (c .literals))))

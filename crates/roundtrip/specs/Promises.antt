@@ -1,15 +1,16 @@
 -- What is promised of reading a table's text back (document 02, order 2). Each is proved in proofs/Promises.
+use mathlib.Core.Bool.{false}
 use mathlib.Core.List.{List, map}
 use mathlib.Core.Logic.{_↔_}
 use mathlib.Core.Path.{_≡_}
 use Prim.Native.Nat.{ℕ, _≤_}
 use lib.ListN.{length, take}
 use Rattle.words.specs.declared.Step.{Step}
-use Rattle.table.specs.Syntax.{Table}
+use Rattle.table.specs.Syntax.{Table, allClauses}
 use Rattle.table.specs.Encode.{literalsWords, fileWords}
 use Rattle.table.specs.Decode.{literalsFrom}
 use Rattle.table.specs.Build.{atFront}
-use Rattle.table.specs.Limits.{Within, FileWithin, Words}
+use Rattle.table.specs.Limits.{Each, Within, FileWithin, Words}
 use Rattle.table.specs.File.{judge, tableIn}
 use Rattle.clausetext.specs.Texts.{Says}
 use Rattle.tptp.specs.declared.TextRead.{TextRead}
@@ -85,9 +86,15 @@ OnlyIfSo =
     (file buffer : List ℕ) → Returns file buffer → (r : TextRead) (left : List ℕ)
     → Reads (tableText (tableIn file)) buffer r left → take (r .words) left ≡ file → AlreadySo (tableIn file)
 
--- It is so exactly where its numbers are in the order of their first use and its variable counts exact.
+-- It is so exactly where its numbers are in the order of their first use, its variable counts exact, and no clause restricted.
 unfoldable pub SoWhereInOrder : Type 0
 SoWhereInOrder = (t : Table) → AlreadySo t ↔ InOrder t
+
+-- The text carries no mark, so a file read back has all marks off (order 8).
+unfoldable pub MarksOff : Type 0
+MarksOff =
+    (file buffer : List ℕ) → Returns file buffer → (r : TextRead) (left : List ℕ) → Reads (tableText (tableIn file)) buffer r left
+    → Each (λ c. c .restricted ≡ false) (allClauses (tableIn (take (r .words) left)))
 
 -- Renumbering twice is renumbering once.
 unfoldable pub TwiceIsOnce : Type 0

@@ -1,6 +1,7 @@
--- A table renumbered by first use (document 02, order 2): symbols over the whole table, each clause's variables within it, variable counts exact.
+-- A table renumbered by first use (document 02, order 2): symbols over the whole table, each clause's variables within it, variable counts exact,
+-- all marks off.
 -- The order of use is that of the table's text: clauses in the order of their numbers, the question last, within each from left to right.
-use mathlib.Core.Bool.{cond}
+use mathlib.Core.Bool.{false, cond}
 use mathlib.Core.List.{List, [], _∷_, _++_, map}
 use mathlib.Core.Path.{_≡_}
 use Prim.Native.Nat.{ℕ, zero, suc}
@@ -88,10 +89,10 @@ unfoldable pub renamedLiteral : {X Y : Type 0} → (ℕ → ℕ) → (ℕ → �
 renamedLiteral predicate function variable l =
     record { negative = l .negative; predicate = predicate (l .predicate); arguments = renamedTerms function variable (l .arguments) }
 
--- a clause has as many variables as it uses
+-- a clause has as many variables as it uses, and no mark
 unfoldable pub renumberedClause : (ℕ → ℕ) → (ℕ → ℕ) → Clause → Clause
 renumberedClause predicate function c =
-    record { variables = length (variables c); literals = map (renamedLiteral predicate function (numberIn (variables c))) (c .literals) }
+    record { restricted = false; variables = length (variables c); literals = map (renamedLiteral predicate function (numberIn (variables c))) (c .literals) }
 
 unfoldable pub renumbered : Table → Table
 renumbered t =
@@ -104,13 +105,15 @@ renumbered t =
 unfoldable pub AlreadySo : Table → Type 0
 AlreadySo t = renumbered t ≡ t
 
--- The same said directly: every number that is used is its own number by first use, and each clause has as many variables as it uses.
+-- The same said directly: every number that is used is its own number by first use, each clause has as many variables as it uses, and none is marked
+-- as restricted.
 unfoldable pub OwnNumbers : List ℕ → Type 0
 OwnNumbers uses = Each (λ n. numberIn (firstUses uses) n ≡ n) uses
 
 pub record ClauseInOrder (c : Clause) : Type 0 where
   pub numbers : OwnNumbers (variableUses (c .literals))
   pub count : c .variables ≡ length (variables c)
+  pub unmarked : c .restricted ≡ false
 
 pub record InOrder (t : Table) : Type 0 where
   pub predicateNumbers : OwnNumbers (ofAll predicateUses (allClauses t))

@@ -39,10 +39,10 @@ abbrev pub evening : Literal ℕ
 evening = played false (constant 3)
 
 abbrev pub bill : Clause
-bill = record { variables = 0; literals = matinee ∷ evening ∷ [] }
+bill = record { restricted = false; variables = 0; literals = matinee ∷ evening ∷ [] }
 
 abbrev pub which : Clause
-which = record { variables = 1; literals = played true (var 0) ∷ [] }
+which = record { restricted = false; variables = 1; literals = played true (var 0) ∷ [] }
 
 abbrev pub season : Table
 season = record { clauses = bill ∷ []; question = which }
@@ -61,19 +61,19 @@ answer = matineeWords ++ eveningWords
 
 -- at(e,mat) as a fact; ask at(e,mat), or at(e,eve)
 abbrev pub stated : Clause
-stated = record { variables = 0; literals = matinee ∷ [] }
+stated = record { restricted = false; variables = 0; literals = matinee ∷ [] }
 
 abbrev pub asked : Term ℕ → Table
-asked slot = record { clauses = stated ∷ []; question = record { variables = 0; literals = played true slot ∷ [] } }
+asked slot = record { clauses = stated ∷ []; question = record { restricted = false; variables = 0; literals = played true slot ∷ [] } }
 
 -- case 5: parent(X,mother(X)); ask parent(Y,Y)
 abbrev pub mothers : Table
 mothers =
     record {
       clauses =
-          record { variables = 1; literals = record { negative = false; predicate = 1; arguments = var 0 then app 1 (var 0 then nil) then nil } ∷ [] }
+          record { restricted = false; variables = 1; literals = record { negative = false; predicate = 1; arguments = var 0 then app 1 (var 0 then nil) then nil } ∷ [] }
           ∷ [];
-      question = record { variables = 1; literals = record { negative = true; predicate = 1; arguments = var 0 then var 0 then nil } ∷ [] };
+      question = record { restricted = false; variables = 1; literals = record { negative = true; predicate = 1; arguments = var 0 then var 0 then nil } ∷ [] };
     }
 
 -- Order 3's table, p(a); r or p(a); r or s; not s; asking p(X) and r, and its proof, which copies the question twice: p = 1, r = 2, s = 3, a = 1.
@@ -87,12 +87,12 @@ abbrev pub twiceTold : Table
 twiceTold =
     record {
       clauses =
-          record { variables = 0; literals = about false (constant 1) ∷ [] }
-          ∷ record { variables = 0; literals = plain false 2 ∷ about false (constant 1) ∷ [] }
-          ∷ record { variables = 0; literals = plain false 2 ∷ plain false 3 ∷ [] }
-          ∷ record { variables = 0; literals = plain true 3 ∷ [] }
+          record { restricted = false; variables = 0; literals = about false (constant 1) ∷ [] }
+          ∷ record { restricted = false; variables = 0; literals = plain false 2 ∷ about false (constant 1) ∷ [] }
+          ∷ record { restricted = false; variables = 0; literals = plain false 2 ∷ plain false 3 ∷ [] }
+          ∷ record { restricted = false; variables = 0; literals = plain true 3 ∷ [] }
           ∷ [];
-      question = record { variables = 1; literals = about true (var 0) ∷ plain true 2 ∷ [] };
+      question = record { restricted = false; variables = 1; literals = about true (var 0) ∷ plain true 2 ∷ [] };
     }
 
 abbrev pub twiceProof : List Step
@@ -114,7 +114,7 @@ abbrev pub NoDisjunctIsFalse : Type 1
 NoDisjunctIsFalse = (I : Interpretation) (X : Type 0) → ¬ AnswerHolds I {X = X} []
 
 abbrev pub NoLiteralIsFalse : Type 0
-NoLiteralIsFalse = (I : Interpretation) (variables : ℕ) → ¬ Holds I (record { variables = variables; literals = [] })
+NoLiteralIsFalse = (I : Interpretation) (variables : ℕ) → ¬ Holds I (record { restricted = false; variables = variables; literals = [] })
 
 abbrev pub NoClauseHolds : Type 0
 NoClauseHolds = (I : Interpretation) → AllHold I []
@@ -238,7 +238,7 @@ SomeComeBefore = Before (Extension 0 0 ∷ []) (Extension 0 1 ∷ []) × ((steps
 
 -- The example is within the limits; a question without literals is not.
 abbrev pub Limits : Type 0
-Limits = Within season × ¬ Within (record { clauses = []; question = record { variables = 0; literals = [] } })
+Limits = Within season × ¬ Within (record { clauses = []; question = record { restricted = false; variables = 0; literals = [] } })
 
 -- OTHER TABLES
 -- Any clause may be added at any place before the question: numbers before it stay, numbers from there on, the question's too, move by one.
@@ -259,7 +259,7 @@ NotEveryTableIsLarger = ¬ Larger season (with-clauses [] which) × ¬ Larger se
 -- Two clauses in another order, and two literals, are the same table; one clause fewer is not.
 abbrev pub AnotherOrder : Type 0
 AnotherOrder =
-    SameTable (with-clauses (bill ∷ stated ∷ []) which) (with-clauses (stated ∷ record { variables = 0; literals = evening ∷ matinee ∷ [] } ∷ []) which)
+    SameTable (with-clauses (bill ∷ stated ∷ []) which) (with-clauses (stated ∷ record { restricted = false; variables = 0; literals = evening ∷ matinee ∷ [] } ∷ []) which)
     × ¬ SameTable season (with-clauses [] which)
 
 -- Behind another clause the example's steps copy the same clauses under numbers one higher; under their own numbers they do not.
@@ -304,4 +304,4 @@ TruthIsDecided = (cs : List (List (Literal ⊥))) → Dec ((v : Valuation ⊥) �
 abbrev pub SomeAreTrue : Type 0
 SomeAreTrue =
     ((v : Valuation ⊥) × AllInstancesTrue v (season .clauses))
-    × ((v : Valuation ⊥) → ¬ AllInstancesTrue v (stated ∷ record { variables = 0; literals = played true (constant 2) ∷ [] } ∷ []))
+    × ((v : Valuation ⊥) → ¬ AllInstancesTrue v (stated ∷ record { restricted = false; variables = 0; literals = played true (constant 2) ∷ [] } ∷ []))

@@ -1,6 +1,7 @@
 -- What the call gives by what it learns at the door; and what the code finds of an entry is its single run.
 use mathlib.Core.Bool.{Bool, true, false, cond, not, _&&_}
 use mathlib.Core.List.{List, [], _∷_, _++_, map}
+use mathlib.Core.Logic.{_⊎_, inl, inr}
 use mathlib.Core.Option.{Option, none, some}
 use mathlib.Core.Path.{_≡_, refl, sym, ap, _∙_}
 use Prim.Native.Nat.{ℕ, _+_, _≤_, _<_}
@@ -10,7 +11,7 @@ use borrow.Author.Tests.{le-leb, le-ltb, eq-eqb, ne-eqb, leb-true, eqb-true, not
 use lib.Dec.{eqb, leb, ltb}
 use lib.ListN.{length}
 use Rattle.table.specs.Body.{bodyFault, anyPositive}
-use Rattle.table.specs.File.{bodyOf, sizeFits, trailerFits, fingerprintFits, clausesFit, questionWords, judgeRead, judgeBody, judge}
+use Rattle.table.specs.File.{bodyOf, sizeFits, trailerFits, fingerprintFits, clausesFit, questionWords, questionRestricted, judgeRead, judgeBody, judge}
 use Rattle.table.specs.Limits.{Each}
 use Rattle.table.specs.declared.Judgement.{Judgement}
 use Rattle.table.proofs.Bools.{and-left, and-right}
@@ -31,12 +32,12 @@ use Rattle.season.proofs.Results.{is-refused}
 -- A STATUS OF THE CHECKS OF INPUT
 pub record Input (least status : ℕ) : Type 0 where
   pub low : least ≤ status
-  pub high : status ≤ 9
+  pub high : (status ≤ 9) ⊎ (status ≡ 21)
 
 input : (least status : ℕ) → least ≤ status → status ≤ 9 → Input least status
-input least status l h = record { low = l; high = h }
+input least status l h = record { low = l; high = inl h }
 
--- the file's own: 0, or 4 to 9
+-- the file's own: 0, 4 to 9, or 21
 abbrev OwnStatus : Judgement → Type 0
 OwnStatus j = (j .status ≡ 0 → ⊥) → Input 1 (j .status) × Input 3 (j .status)
 
@@ -52,7 +53,8 @@ unfolding judgeRead
 own-read file (some place) = λ n. both 7 (omega arith) (omega arith)
 own-read file none =
     own-choice (clausesFit file) _ _
-    (own-choice (anyPositive (questionWords file)) _ _ (λ n. both 9 (omega arith) (omega arith)) (λ n. absurd (n refl)))
+    (own-choice (anyPositive (questionWords file)) _ _ (λ n. both 9 (omega arith) (omega arith))
+    (own-choice (questionRestricted file) _ _ (λ n. (record { low = omega arith; high = inr refl }, record { low = omega arith; high = inr refl })) (λ n. absurd (n refl))))
     (λ n. both 8 (omega arith) (omega arith))
 
 own-status : (file : List ℕ) → OwnStatus (judge file)
@@ -108,8 +110,9 @@ module _ (file : List ℕ) (i : Inputs) {fault : Fault} (e : firstFault (checks 
 false-true : {A : Type 0} → false ≡ true → A
 false-true e = let z : _≡_ {A = ℕ} 0 1 = ap (λ (b : Bool). cond b 1 0) e in absurd (omega arith)
 
-pub input-refused : (o : Outcome) → 1 ≤ o .status → o .status ≤ 9 → resultOf o ≡ 5
-input-refused o l h = sym (is-refused o (λ e. omega arith) (λ e. omega arith) (λ e. omega arith) (λ e. omega arith))
+pub input-refused : (o : Outcome) → 1 ≤ o .status → (o .status ≤ 9) ⊎ (o .status ≡ 21) → resultOf o ≡ 5
+input-refused o l (inl h) = sym (is-refused o (λ e. omega arith) (λ e. omega arith) (λ e. omega arith) (λ e. omega arith))
+input-refused o l (inr h) = sym (is-refused o (λ e. omega arith) (λ e. omega arith) (λ e. omega arith) (λ e. omega arith))
 
 pub refused-ran : (a : SearchAsked) → (SearchAccepted a → ⊥) → ran (searchCall a) ≡ notRun
 unfolding searchCall behind

@@ -27,6 +27,10 @@ pub buffer-cases : Cases.BufferCases
 unfolding reckoned
 buffer-cases = (refl, refl)
 
+pub mark-case : Cases.MarkCase
+unfolding reckoned
+mark-case = refl
+
 pub entry-cases : Cases.EntryCases
 unfolding entriesFit
 entry-cases = refl

@@ -301,7 +301,18 @@ judged b w p = go (firstFault (checks (b .file) (searchInputs b))) refl
         let late = fault-late (b .file) (searchInputs b) e w p in
         let is = fault-status b e in
         refused-run (λ ok. let z : _≡_ {A = ℕ} 0 1 = cc (e, admitted (b .file) (searchInputs b) ok) in absurd (omega arith))
-        (record { low = omega (arith, late .low, is); high = omega (arith, late .high, is) })
+        (record { low = omega (arith, late .low, is); high = subst (λ (s : ℕ). (s ≤ 9) ⊎ (s ≡ 21)) (sym is) (late .high) })
+
+of-input : {status : ℕ} → Input 3 status → Promises.RefusedInput status
+of-input {status} i = go (i .high)
+  where
+    go : (status ≤ 9) ⊎ (status ≡ 21) → Promises.RefusedInput status
+    go (inl h) = inl (i .low, h)
+    go (inr h) = inr h
+
+refused-by-input : (o : Outcome) → Promises.RefusedInput (o .status) → resultOf o ≡ 5
+refused-by-input o (inl h) = input-refused o (omega (arith, h .0)) (inl (h .1))
+refused-by-input o (inr h) = input-refused o (omega (arith, h)) (inr h)
 
 pub refused-exactly : Promises.RefusedExactly
 refused-exactly a reports e = (
@@ -314,7 +325,7 @@ refused-exactly a reports e = (
 
     forth : runOf a e .result ≡ 5 → Dec (length (a .list) < e .place + e .count)
         → (length (a .list) < e .place + e .count)
-        ⊎ ((e .place + e .count ≤ length (a .list)) × (3 ≤ searchStatus (singleAsked a e)) × (searchStatus (singleAsked a e) ≤ 9))
+        ⊎ ((e .place + e .count ≤ length (a .list)) × Promises.RefusedInput (searchStatus (singleAsked a e)))
     forth h (yes out) = inl out
     forth h (no n) = go (judged b (accepts a reports .work) (accepts a reports .proof))
       where
@@ -322,16 +333,16 @@ refused-exactly a reports e = (
         there = omega arith
 
         go : Judged (singleAsked a e) → (length (a .list) < e .place + e .count)
-            ⊎ ((e .place + e .count ≤ length (a .list)) × (3 ≤ searchStatus (singleAsked a e)) × (searchStatus (singleAsked a e) ≤ 9))
+            ⊎ ((e .place + e .count ≤ length (a .list)) × Promises.RefusedInput (searchStatus (singleAsked a e)))
         go (accepted-run ok) = absurd (accepted-found (search-says b ok) (sym (ap (λ (r : Run). r .result) (inside-run a e there)) ∙ h))
-        go (refused-run no-run i) = inr (there, i .low, i .high)
+        go (refused-run no-run i) = inr (there, of-input i)
 
     back : (length (a .list) < e .place + e .count)
-        ⊎ ((e .place + e .count ≤ length (a .list)) × (3 ≤ searchStatus (singleAsked a e)) × (searchStatus (singleAsked a e) ≤ 9))
+        ⊎ ((e .place + e .count ≤ length (a .list)) × Promises.RefusedInput (searchStatus (singleAsked a e)))
         → runOf a e .result ≡ 5
     back (inl out) = ap (λ (r : Run). r .result) (outside-run a e out)
     back (inr x) =
-        ap (λ (r : Run). r .result) (inside-run a e (x .0)) ∙ input-refused (searchCall (singleAsked a e) .outcome) (omega (arith, x .1)) (x .2)
+        ap (λ (r : Run). r .result) (inside-run a e (x .0)) ∙ refused-by-input (searchCall (singleAsked a e) .outcome) (x .1)
 
 pub tries-exactly : Promises.TriesExactly
 tries-exactly a e = (λ h. ap (λ (r : Run). r .tries) (inside-run a e h), λ h. ap (λ (r : Run). r .tries) (outside-run a e h))

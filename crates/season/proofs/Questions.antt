@@ -33,6 +33,7 @@ pub record Asks (question : List ℕ) : Type 0 where
   pub words : question ≡ clauseWords clause
   pub within : ClauseWithin clause
   pub negative : Each (λ l. l .negative ≡ true) (clause .literals)
+  pub unmarked : clause .restricted ≡ false
 
 pub asks-short : {question : List ℕ} → Asks question → length question ≤ 256
 unfolding clauseWords
@@ -58,16 +59,17 @@ module _ (cs : List Clause) (q : Clause) where
   file-split =
       ap (λ (ws : List ℕ). ws ++ trailerWords ws (length (clausesWords cs)) (length (allClauses (tableWith cs q)))) body-split
 
-  together : Each ClauseWithin cs → length cs ≤ 511 → ClauseWithin q → Each (λ l. l .negative ≡ true) (q .literals)
+  together : Each ClauseWithin cs → length cs ≤ 511 → ClauseWithin q → Each (λ l. l .negative ≡ true) (q .literals) → q .restricted ≡ false
       → length (clausesWords cs) + length (clauseWords q) + 4 ≤ 16000 → FileWithin (tableWith cs q)
   unfolding allClauses Each
-  together each few one negative short =
+  together each few one negative unmarked short =
       record {
         table = record {
           few = omega (arith, length-append cs (q ∷ []));
           clauses = each-append ClauseWithin cs (q ∷ []) each (one, tt);
         };
         question = negative;
+        unmarked = unmarked;
         short = omega (arith, ap length body-split, length-append (clausesWords cs) (clauseWords q));
       }
 
@@ -81,6 +83,7 @@ module _ (file : List ℕ) (small : Words file) (z : judge file .status ≡ 0) w
         words = sym e ∙ ap (λ (n : ℕ). drop n (bodyOf file)) (sym (accepted file z .question)) ∙ words-of-question file small z;
         within = each-last ClauseWithin (tableIn file .clauses) (tableIn file .question) (file-within file small z .table .clauses);
         negative = file-within file small z .question;
+        unmarked = file-within file small z .unmarked;
       }
 
 -- the fingerprint is a word
@@ -124,7 +127,7 @@ module _ (question : List ℕ) where
   unfolding allClauses clausesWords Each
   alone-accepted q =
       let c = q .clause in
-      let fits = together [] c tt (omega arith) (q .within) (q .negative) (omega (arith, asks-short q, ap length (q .words))) in
+      let fits = together [] c tt (omega arith) (q .within) (q .negative) (q .unmarked) (omega (arith, asks-short q, ap length (q .words))) in
       ap (λ (ws : List ℕ). judge (alone ws) .status) (q .words)
       ∙ ap (λ (ws : List ℕ). judge ws .status) (sym (file-split [] c))
       ∙ ap (λ (j : Judgement). j .status) (file-accepted (tableWith [] c) fits)
@@ -176,7 +179,7 @@ module _ (table : List ℕ) (small : Words table) (z : judge table .status ≡ 0
 
       with-within : FileWithin (tableWith (tableIn table .clauses) (q .clause))
       with-within =
-          together (tableIn table .clauses) (q .clause) clauses-within (omega (arith, clauses-number, clauses-low)) (q .within) (q .negative)
+          together (tableIn table .clauses) (q .clause) clauses-within (omega (arith, clauses-number, clauses-low)) (q .within) (q .negative) (q .unmarked)
           (omega (arith, short, ap length (q .words), ap length own-words, own-length))
 
       pub with-accepted : judge (fileWith table question) .status ≡ 0

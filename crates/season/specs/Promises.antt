@@ -65,13 +65,16 @@ RanOutExactly = (a : SeasonAsked) (e : Entry) → (runOf a e .result ≡ ranOut)
 abbrev pub TooLongExactly : Type 0
 TooLongExactly = (a : SeasonAsked) (e : Entry) → (runOf a e .result ≡ tooLong) ↔ Single a e Status.answerTooLong
 
--- Refused are those that point past the list, and those whose run is refused by its bound or its file: 3, or 4 to 9.
+-- Refused are those that point past the list, and those whose run is refused by its bound or its file: 3, 4 to 9, or 21.
+abbrev pub RefusedInput : ℕ → Type 0
+RefusedInput status = ((3 ≤ status) × (status ≤ 9)) ⊎ (status ≡ 21)
+
 abbrev pub RefusedExactly : Type 0
 RefusedExactly =
     (a : SeasonAsked) → Reports a → (e : Entry)
     → (runOf a e .result ≡ refused)
     ↔ ((length (a .list) < e .place + e .count)
-    ⊎ ((e .place + e .count ≤ length (a .list)) × (3 ≤ searchStatus (singleAsked a e)) × (searchStatus (singleAsked a e) ≤ 9)))
+    ⊎ ((e .place + e .count ≤ length (a .list)) × RefusedInput (searchStatus (singleAsked a e))))
 
 -- The tries of an entry are its single run's; one that points past the list has none.
 abbrev pub TriesExactly : Type 0

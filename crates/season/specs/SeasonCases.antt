@@ -77,6 +77,20 @@ BufferCases =
 abbrev pub EntryCases : Type 0
 EntryCases = map entriesFit (0 ∷ 4 ∷ 5 ∷ 16384 ∷ 16385 ∷ 16388 ∷ []) ≡ true ∷ true ∷ false ∷ true ∷ false ∷ false ∷ []
 
+-- q(X), and the same question restricted: 21, which counts as refused
+abbrev pub MarkCase : Type 0
+MarkCase =
+    reportOf
+    (record {
+      table = smallTable;
+      entries = 0 ∷ 3 ∷ 1 ∷ 100 ∷ 3 ∷ 3 ∷ 1 ∷ 100 ∷ [];
+      list = 0xC0000209 ∷ 0x80009002 ∷ 0x00000000 ∷ 0xC0010209 ∷ 0x80009002 ∷ 0x00000000 ∷ [];
+      proofRoom = 199;
+      answerRoom = 6;
+      workRoom = 16384;
+    })
+    ≡ record { status = 0; place = 0; definite = 1; indefinite = 0; none = 0; ranout = 0; toolong = 0; refused = 1; tries = 1 }
+
 -- the same table with r added
 abbrev pub largerTable : List ℕ
 largerTable =

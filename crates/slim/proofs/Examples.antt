@@ -36,7 +36,7 @@ abbrev not-so : ℕ → Literal ℕ
 not-so p = record { negative = true; predicate = p; arguments = nil }
 
 abbrev saying : List (Literal ℕ) → Clause
-saying literals = record { variables = 0; literals = literals }
+saying literals = record { restricted = false; variables = 0; literals = literals }
 
 -- r or p; not r or s, in which s has no partner; p; p again; not p, with the question's words; the question: not p
 abbrev old : Table

@@ -49,9 +49,9 @@ module _ (test : ℕ → Bool) (of-literals : (w : ℕ) → (kindOf w ≡ 2 → 
   pub some-in-clause : (c : Clause) → ClauseWithin c → someOf test (clauseWords c) ≡ someOf (λ l. test (headWord l)) (c .literals)
   unfolding clauseWords someOf
   some-in-clause c h =
-      let word = clauseWord (length (c .literals)) (c .variables) (length (literalsWords (c .literals))) in
+      let word = clauseWord (c .restricted) (length (c .literals)) (c .variables) (length (literalsWords (c .literals))) in
       let kind : kindOf word ≡ 3 =
-      clause-kind (length (c .literals)) (c .variables) (length (literalsWords (c .literals))) (omega (arith, h .few)) (omega (arith, h .variables)) (omega (arith, h .follow))
+      clause-kind (length (c .literals)) (c .variables) (length (literalsWords (c .literals))) (omega (arith, h .few)) (omega (arith, h .variables)) (omega (arith, h .follow)) (c .restricted)
       in
       rw (of-literals word (λ e. omega arith)) (some-literal (c .variables) (c .literals) (h .variables) (h .literals))
 

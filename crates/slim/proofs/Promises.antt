@@ -309,6 +309,7 @@ module _ (t : Table) (h : FileWithin t) where
       record {
         table = record { few = omega (arith, fewer-clauses t p, h .table .few); clauses = remaining-within t p (clauses-in t h) (question-in t h) };
         question = subst (λ (c : Clause). Each (λ l. l .negative ≡ true) (c .literals)) (sym (same-question t h p)) (h .question);
+        unmarked = subst (λ (c : Clause). c .restricted ≡ false) (sym (same-question t h p)) (h .unmarked);
         short = omega (arith, shorter-body t p, h .short);
       }
 

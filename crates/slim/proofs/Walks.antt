@@ -42,7 +42,7 @@ each-right P (x ∷ xs) ys e = each-right P xs ys (e .1)
 pub own-length : (c : Clause) (ws : List ℕ) → ClauseWithin c → followingOf (getD (clauseWords c ++ ws) 0 0) + 1 ≡ length (clauseWords c)
 unfolding clauseWords
 own-length c ws h =
-    let e = clause-following (length (c .literals)) (c .variables) (length (literalsWords (c .literals))) (omega (arith, h .few)) (omega (arith, h .variables)) (omega (arith, h .follow)) in
+    let e = clause-following (length (c .literals)) (c .variables) (length (literalsWords (c .literals))) (omega (arith, h .few)) (omega (arith, h .variables)) (omega (arith, h .follow)) (c .restricted) in
     rw e (add-one (length (literalsWords (c .literals))))
 
 pub clause-some : (c : Clause) → 1 ≤ length (clauseWords c)

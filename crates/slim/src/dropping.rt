@@ -12,7 +12,7 @@ ghost use Rattle.slim.specs.Rounds.{unrepeated, keptFlags};
 ghost use Rattle.slim.specs.Walking.{Ready, Passed, kindIndex, oppositeIndex, Marked, Marks, lonely, Swept};
 
 // Where the clause after this one begins.
-pub(crate) fn after(file: &[u32], at: usize) -> usize
+pub fn after(file: &[u32], at: usize) -> usize
     requires { ⌜ at < length (now file) ⌝ }
     requires { ⌜ length (now file) ≤ 16000 ⌝ }
     ensures { λ r. ⌜ r ≡ at + (followingOf (getD (now (file .entry)) at 0) + 1) ⌝ }

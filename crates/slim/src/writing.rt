@@ -12,13 +12,13 @@ ghost use Rattle.slim.specs.Dropping.{remaining};
 ghost use Rattle.slim.specs.Walking.{Ready, keptWords, keptNumbers, Sized};
 
 // The slimmer file: where its question begins, the words of its body, and its clauses.
-pub(crate) struct Size {
+pub struct Size {
     pub question: usize,
     pub body: usize,
     pub clauses: usize,
 }
 
-pub(crate) fn measure(file: &[u32], question: usize, present: &[bool]) -> Size
+pub fn measure(file: &[u32], question: usize, present: &[bool]) -> Size
     requires { ⌜ Ready (now file) question × (length (now present) ≡ length (tableIn (now file) .clauses)) ⌝ }
     ensures { λ r. ⌜ Sized (remaining (tableIn (now (file .entry))) (now (present .entry))) r ⌝ }
 {
@@ -88,13 +88,7 @@ pub(crate) fn number(present: &[bool], numbers: &mut [u32])
 }
 
 // The slimmer file: the clauses that are kept, the question behind them, and the trailer.
-pub(crate) fn write(
-    file: &[u32],
-    question: usize,
-    present: &[bool],
-    slimmer: &mut [u32],
-    size: Size,
-)
+pub fn write(file: &[u32], question: usize, present: &[bool], slimmer: &mut [u32], size: Size)
     requires { ⌜ Ready (now file) question × (length (now present) ≡ length (tableIn (now file) .clauses)) ⌝ }
     requires { ⌜ Sized (remaining (tableIn (now file)) (now present)) size ⌝ }
     requires { ⌜ size .body + 4 ≤ length (now slimmer) ⌝ }

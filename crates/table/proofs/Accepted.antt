@@ -10,7 +10,7 @@ use lib.ListN.{length}
 use borrow.Author.Tests.{eqb-true, leb-true}
 use Rattle.words.specs.Fingerprint.{fingerprint}
 use Rattle.table.specs.Body.{bodyFault, lastOf, anyPositive}
-use Rattle.table.specs.File.{bodyOf, trailer, clauseStarts, sizeFits, trailerFits, fingerprintFits, clausesFit, questionWords, refused, judgeRead, judgeBody, judge}
+use Rattle.table.specs.File.{bodyOf, trailer, clauseStarts, sizeFits, trailerFits, fingerprintFits, clausesFit, questionWords, questionRestricted, refused, judgeRead, judgeBody, judge}
 use Rattle.table.specs.declared.Judgement.{Judgement}
 use Rattle.table.proofs.Bools.{and-left, and-right}
 use Rattle.table.proofs.Files.{TrailerRight, trailer-right}
@@ -24,6 +24,7 @@ pub record Accepted (file : List ℕ) : Type 0 where
   pub count : length (clauseStarts file) ≡ trailer file 1
   pub last : lastOf 0 (clauseStarts file) ≡ trailer file 0
   pub negative : anyPositive (questionWords file) ≡ false
+  pub unmarked : questionRestricted file ≡ false
   pub clauses : judge file .clauses ≡ trailer file 1
   pub question : judge file .question ≡ trailer file 0
 
@@ -73,9 +74,13 @@ module _ (file : List ℕ) (z : judge file .status ≡ 0) where
   unfolding judgeRead
   asked = untaken (anyPositive (questionWords file)) _ 9 (omega arith) (rw (read-judged, whole, counted) at z)
 
+  question-open : questionRestricted file ≡ false
+  unfolding judgeRead
+  question-open = untaken (questionRestricted file) _ 21 (omega arith) (rw (read-judged, whole, counted, asked) at z)
+
   judged : judge file ≡ record { status = 0; place = 0; clauses = trailer file 1; question = trailer file 0 }
   unfolding judgeRead
-  judged = rw (read-judged, whole, counted, asked)
+  judged = rw (read-judged, whole, counted, asked, question-open)
 
   pub accepted : Accepted file
   unfolding sizeFits fingerprintFits clausesFit
@@ -88,6 +93,7 @@ module _ (file : List ℕ) (z : judge file .status ≡ 0) where
     count = eqb-true _ _ (and-left _ (eqb (lastOf 0 (clauseStarts file)) (trailer file 0)) counted);
     last = eqb-true _ _ (and-right (eqb (length (clauseStarts file)) (trailer file 1)) _ counted);
     negative = asked;
+    unmarked = question-open;
     clauses = ap (λ (j : Judgement). j .clauses) judged;
     question = ap (λ (j : Judgement). j .question) judged;
   }

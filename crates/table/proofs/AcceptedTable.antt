@@ -8,9 +8,9 @@ use Prim.Native.Nat.{ℕ, zero, suc, _+_, _-_, _^_, _≤_, _<_, min}
 use native.Mathlib.Omega.{arith}
 use lib.Dec.{eqb, leb}
 use lib.ListN.{length, take, drop, getD, length-take}
-use lib.Seq.{getD-take, take-take, take-nil, length-take-le}
+use lib.Seq.{getD-take, drop-cons, take-take, take-nil, length-take-le}
 use borrow.Author.Tests.{le-leb, eq-eqb, eqb-true, eqb-false, not-false}
-use Rattle.words.specs.Fields.{kindOf, negativeOf, followingOf, clauseShaped}
+use Rattle.words.specs.Fields.{kindOf, negativeOf, followingOf, restrictedOf, clauseShaped}
 use Rattle.table.specs.Syntax.{Clause, allClauses}
 use Rattle.table.specs.Reading.{clauseFits, clauseFault}
 use Rattle.table.specs.Body.{lastOf, positive, anyPositive}
@@ -19,6 +19,7 @@ use Rattle.table.specs.Decode.{literalsFrom, clauseOf, tableOf}
 use Rattle.table.specs.Limits.{Each, Within, Words, Readable}
 use Rattle.table.proofs.Bools.{and-left, cond-none}
 use Rattle.table.proofs.Accepted.{accepted}
+use Rattle.table.proofs.Files.{body-length}
 use Rattle.table.proofs.Bodies.{sound-fits}
 use Rattle.table.proofs.Decoding.{literals-literal, literals-other}
 use Rattle.table.proofs.BodyDecoding.{table-within, all-clauses, clauses-count, each-take}
@@ -84,6 +85,11 @@ unfolding anyPositive clauseOf Each
 clause-negative [] e = tt
 clause-negative (w ∷ ws) e = literals-negative ws (or-right (positive w) (anyPositive ws) e)
 
+-- a clause's mark is that of its own word
+pub clause-mark : (body : List ℕ) (at : ℕ) → at < length body → clauseOf (wordsFrom body at) .restricted ≡ restrictedOf (getD body at 0)
+unfolding clauseOf
+clause-mark body at h = rw (drop-cons body at 0 h)
+
 -- a clause that stands in the front of a list, read in the whole list
 module _ (size : ℕ) (file : List ℕ) {at : ℕ} (long : size ≤ length file) (s : StandsAt (take size file) at) where
   size-is : length (take size file) ≡ size
@@ -138,6 +144,14 @@ module _ (file : List ℕ) (z : judge file .status ≡ 0) where
   question-negative =
       let a = accepted file z in
       rw (question-words, a .question) (clause-negative _ (none-of-front (suc (followingOf (getD (bodyOf file) (trailer file 0) 0))) (questionWords file) (a .negative)))
+
+  pub question-unmarked : tableOf (bodyOf file) .question .restricted ≡ false
+  question-unmarked =
+      let a = accepted file z in
+      let inside : trailer file 0 < length file - 4 = omega (arith, a .right .below, a .right .whole) in
+      let own : getD (bodyOf file) (trailer file 0) 0 ≡ getD file (trailer file 0) 0 = getD-take (length file - 4) file (trailer file 0) 0 inside in
+      rw (question-words, a .question)
+      (clause-mark (bodyOf file) (trailer file 0) (omega (arith, inside, body-length file)) ∙ ap (λ (w : ℕ). restrictedOf w) own ∙ a .unmarked)
 
   pub body-words : Words file → Words (bodyOf file)
   body-words small = each-take (λ (w : ℕ). w < 2 ^ 32) (length file - 4) file small

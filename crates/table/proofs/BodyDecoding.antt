@@ -8,7 +8,7 @@ use native.Mathlib.Omega.{arith}
 use lib.Dec.{leb}
 use lib.ListN.{length, take, drop, take-append-drop, length-map}
 use lib.Seq.{length-take-le}
-use Rattle.words.specs.Fields.{literalsOf, variablesOf, followingOf, clauseShaped, clauseWord}
+use Rattle.words.specs.Fields.{literalsOf, variablesOf, followingOf, restrictedOf, clauseShaped, clauseWord}
 use Rattle.words.proofs.Packed.{bits-small, clause-variables-small, clause-literals-some, clause-word}
 use Rattle.table.specs.Syntax.{Terms, nil, _then_, arity, Clause, allClauses}
 use Rattle.table.specs.Encode.{termsWords, literalsWords, clauseWords, clausesWords, bodyWords}
@@ -54,7 +54,7 @@ module _ (w : ℕ) (ws : List ℕ) (sound : clauseFault w ws ≡ none) where
   unfolding clauseWords clauseOf Each
   clause-encoded small =
       ap₂ (λ (x : ℕ) (xs : List ℕ). x ∷ xs)
-      (ap₂ (λ (l f : ℕ). clauseWord l (variablesOf w) f) (following .count) own-count ∙ sym (clause-word w shaped (small .0)))
+      (ap₂ (λ (l f : ℕ). clauseWord (restrictedOf w) l (variablesOf w) f) (following .count) own-count ∙ sym (clause-word w shaped (small .0)))
       (sym (following .words (each-take (λ (x : ℕ). x < 2 ^ 32) (followingOf w) ws (small .1)) ∙ no-terms-before))
 
   pub clause-within : ClauseWithin (clauseOf (w ∷ take (followingOf w) ws))

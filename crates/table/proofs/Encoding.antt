@@ -9,8 +9,8 @@ use native.Mathlib.Omega.{arith}
 use lib.ListN.{length, take, drop, length-append}
 use lib.Seq.{take-append-seam, drop-append-seam}
 use borrow.Author.Tests.{lt-ltb, le-leb}
-use Rattle.words.specs.Fields.{numberOf, literalsOf, variablesOf, followingOf, clauseShaped, variableWord, functionWord, literalWord, clauseWord}
-use Rattle.words.proofs.Packed.{variable-kind, variable-number, variable-shaped, function-kind, function-symbol, function-arity, function-shaped, function-not-variable, literal-kind, literal-predicate, literal-arity, literal-negative, literal-shaped, clause-literals, clause-variables, clause-following, clause-shaped}
+use Rattle.words.specs.Fields.{numberOf, literalsOf, variablesOf, followingOf, restrictedOf, clauseShaped, variableWord, functionWord, literalWord, clauseWord}
+use Rattle.words.proofs.Packed.{variable-kind, variable-number, variable-shaped, function-kind, function-symbol, function-arity, function-shaped, function-not-variable, literal-kind, literal-predicate, literal-arity, literal-negative, literal-shaped, clause-literals, clause-variables, clause-following, clause-restricted, clause-shaped, clause-fits}
 use Rattle.table.specs.Syntax.{Term, var, app, Terms, nil, _then_, arity, Literal, Clause, Table, allClauses}
 use Rattle.table.specs.Encode.{termWords, termsWords, literalWords, literalsWords, clauseWords, clausesWords, bodyWords}
 use Rattle.table.specs.Reading.{termArity, afterTerm, afterLiteral, after, stopsShort, onward, fault, clauseFault}
@@ -94,27 +94,32 @@ module _ (c : Clause) (h : ClauseWithin c) where
   own = literalsWords (c .literals)
 
   word : ℕ
-  word = clauseWord (length (c .literals)) (c .variables) (length (literalsWords (c .literals)))
+  word = clauseWord (c .restricted) (length (c .literals)) (c .variables) (length (literalsWords (c .literals)))
 
   clause-counts : followingOf word ≡ length own
   unfolding word own
   clause-counts =
-      clause-following (length (c .literals)) (c .variables) (length (literalsWords (c .literals))) (omega (arith, h .few)) (omega (arith, h .variables)) (omega (arith, h .follow))
+      clause-following (length (c .literals)) (c .variables) (length (literalsWords (c .literals))) (omega (arith, h .few)) (omega (arith, h .variables)) (omega (arith, h .follow)) (c .restricted)
 
   clause-has-variables : variablesOf word ≡ c .variables
   unfolding word
   clause-has-variables =
-      clause-variables (length (c .literals)) (c .variables) (length (literalsWords (c .literals))) (omega (arith, h .few)) (omega (arith, h .variables)) (omega (arith, h .follow))
+      clause-variables (length (c .literals)) (c .variables) (length (literalsWords (c .literals))) (omega (arith, h .few)) (omega (arith, h .variables)) (omega (arith, h .follow)) (c .restricted)
 
   clause-has-literals : literalsOf word ≡ length (c .literals)
   unfolding word
   clause-has-literals =
-      clause-literals (length (c .literals)) (c .variables) (length (literalsWords (c .literals))) (omega (arith, h .few)) (omega (arith, h .variables)) (omega (arith, h .follow))
+      clause-literals (length (c .literals)) (c .variables) (length (literalsWords (c .literals))) (omega (arith, h .few)) (omega (arith, h .variables)) (omega (arith, h .follow)) (c .restricted)
+
+  clause-has-mark : restrictedOf word ≡ c .restricted
+  unfolding word
+  clause-has-mark =
+      clause-restricted (length (c .literals)) (c .variables) (length (literalsWords (c .literals))) (omega (arith, h .few)) (omega (arith, h .variables)) (omega (arith, h .follow)) (c .restricted)
 
   clause-is-shaped : clauseShaped word ≡ true
   unfolding word
   clause-is-shaped =
-      clause-shaped (length (c .literals)) (c .variables) (length (literalsWords (c .literals))) (omega (arith, h .few)) (omega (arith, h .variables)) (omega (arith, h .follow)) (h .some) (h .variables) (words-some (c .literals) (h .some))
+      clause-shaped (length (c .literals)) (c .variables) (length (literalsWords (c .literals))) (omega (arith, h .few)) (omega (arith, h .variables)) (omega (arith, h .follow)) (c .restricted) (h .some) (h .variables) (words-some (c .literals) (h .some))
 
   take-own : (ws : List ℕ) → take (followingOf word) (own ++ ws) ≡ own
   take-own ws = rw (clause-counts, take-append-seam own ws)
@@ -222,7 +227,7 @@ module _ (c : Clause) (h : ClauseWithin c) where
   pub clause-decoded : clauseOf (clauseWords c) ≡ c
   unfolding clauseOf clauseWords word
   clause-decoded i =
-      record { variables = clause-has-variables c h i; literals = literals-decoded (c .literals) (omega (arith, h .variables)) (h .literals) i }
+      record { restricted = clause-has-mark c h i; variables = clause-has-variables c h i; literals = literals-decoded (c .literals) (omega (arith, h .variables)) (h .literals) i }
 
   clause-parts : (ws : List ℕ) → partsFrom 0 (clauseWords c ++ ws) ≡ clauseWords c ∷ partsFrom 0 ws
   unfolding partsFrom clauseWords word own
@@ -319,6 +324,6 @@ pub clauses-fit : (cs : List Clause) → Each ClauseWithin cs → Words (clauses
 unfolding clausesWords clauseWords Each
 clauses-fit [] h = tt
 clauses-fit (c ∷ cs) h = (
-  omega (arith, h .0 .few, h .0 .variables, h .0 .follow),
+  clause-fits (length (c .literals)) (c .variables) (length (literalsWords (c .literals))) (omega (arith, h .0 .few)) (omega (arith, h .0 .variables)) (omega (arith, h .0 .follow)) (c .restricted),
   each-append (λ (w : ℕ). w < 2 ^ 32) (literalsWords (c .literals)) (clausesWords cs) (literals-fit (c .variables) (c .literals) (h .0 .variables) (h .0 .literals)) (clauses-fit cs (h .1)),
 )

@@ -6,23 +6,23 @@ use mathlib.Core.Option.{none, some}
 use Prim.Native.Nat.{ℕ, _+_, _-_, _^_, _≤_, _<_}
 use native.Mathlib.Nat.{add-zero, zero-add}
 use native.Mathlib.Omega.{arith}
-use lib.ListN.{length, drop, getD, length-append, length-drop, take-append-drop}
-use lib.Seq.{take-append-seam, drop-append-seam, getD-append-add, getD-drop}
+use lib.ListN.{length, drop, getD, length-append, length-drop, take-append-drop, List·getD-append}
+use lib.Seq.{take-append-seam, drop-append-seam, getD-append-seam, getD-append-add, getD-drop}
 use borrow.Author.Tests.{eq-eqb, ne-eqb, le-leb, lt-ltb}
-use Rattle.words.specs.Fields.{kindOf, variableWord, functionWord, literalWord, clauseWord}
+use Rattle.words.specs.Fields.{kindOf, restrictedOf, variableWord, functionWord, literalWord, clauseWord}
 use Rattle.words.specs.Fingerprint.{fingerprint}
-use Rattle.words.proofs.Packed.{variable-kind, function-kind, literal-kind, literal-negative, clause-kind}
+use Rattle.words.proofs.Packed.{variable-kind, function-kind, literal-kind, literal-negative, clause-kind, clause-restricted}
 use Rattle.table.specs.Syntax.{Term, var, app, Terms, nil, _then_, arity, Literal, Clause, Table, allClauses}
 use Rattle.table.specs.Encode.{termWords, termsWords, literalWords, literalsWords, clauseWords, clausesWords, bodyWords, fileWords}
 use Rattle.table.specs.Body.{bodyFault, starts, lastOf, positive, anyPositive}
-use Rattle.table.specs.File.{bodyOf, trailer, sizeFits, trailerFits, fingerprintFits, clausesFit, questionWords, judgeRead, judgeBody, judge}
+use Rattle.table.specs.File.{bodyOf, trailer, sizeFits, trailerFits, fingerprintFits, clausesFit, questionWords, questionRestricted, judgeRead, judgeBody, judge}
 use Rattle.table.specs.Decode.{tableOf}
 use Rattle.table.specs.Limits.{TermWithin, TermsWithin, LiteralWithin, Each, ClauseWithin, Within, FileWithin, Words}
 use Rattle.table.proofs.Encoding.{clause-starts, words-some, table-count, table-some, table-readable, table-decoded}
 use Rattle.table.proofs.Files.{body-length}
 use Rattle.table.proofs.Accepted.{accepted}
 use Rattle.table.proofs.BodyDecoding.{table-encoded}
-use Rattle.table.proofs.AcceptedTable.{body-readable, body-words, accepted-within, accepted-count, question-negative}
+use Rattle.table.proofs.AcceptedTable.{body-readable, body-words, accepted-within, accepted-count, question-negative, question-unmarked}
 
 -- a word that is no literal is not positive, and neither is a negative literal
 other-positive : (w : ℕ) → (kindOf w ≡ 2 → ⊥) → positive w ≡ false
@@ -59,9 +59,9 @@ literals-not-positive v (l ∷ ls) few h n =
 clause-not-positive : (c : Clause) → ClauseWithin c → Each (λ l. l .negative ≡ true) (c .literals) → anyPositive (clauseWords c) ≡ false
 unfolding clauseWords anyPositive
 clause-not-positive c h n =
-    let word = clauseWord (length (c .literals)) (c .variables) (length (literalsWords (c .literals))) in
+    let word = clauseWord (c .restricted) (length (c .literals)) (c .variables) (length (literalsWords (c .literals))) in
     let kind : kindOf word ≡ 3 =
-    clause-kind (length (c .literals)) (c .variables) (length (literalsWords (c .literals))) (omega (arith, h .few)) (omega (arith, h .variables)) (omega (arith, h .follow))
+    clause-kind (length (c .literals)) (c .variables) (length (literalsWords (c .literals))) (omega (arith, h .few)) (omega (arith, h .variables)) (omega (arith, h .follow)) (c .restricted)
     in
     rw (other-positive word (λ e. omega arith)) (literals-not-positive (c .variables) (c .literals) (h .variables) (h .literals) n)
 
@@ -106,7 +106,7 @@ module _ (body : List ℕ) (a b c d : ℕ) where
       let z : length made - 4 ≡ length body = omega (arith, made-length) in
       rw z (getD-append-add body (a ∷ b ∷ c ∷ d ∷ []) k 0)
 
-  module _ (least : 6 ≤ length body + 4) (most : length body + 4 ≤ 16000) (whole : d ≡ length body) (some : 1 ≤ b) (few : b ≤ 512) (below : a < d) (print : fingerprint body ≡ c) (sound : bodyFault 0 0 body ≡ none) (count : length (starts 0 0 body) ≡ b) (last : lastOf 0 (starts 0 0 body) ≡ a) (negative : anyPositive (drop a body) ≡ false) where
+  module _ (least : 6 ≤ length body + 4) (most : length body + 4 ≤ 16000) (whole : d ≡ length body) (some : 1 ≤ b) (few : b ≤ 512) (below : a < d) (print : fingerprint body ≡ c) (sound : bodyFault 0 0 body ≡ none) (count : length (starts 0 0 body) ≡ b) (last : lastOf 0 (starts 0 0 body) ≡ a) (negative : anyPositive (drop a body) ≡ false) (unmarked : restrictedOf (getD body a 0) ≡ false) where
     made-sized : sizeFits made ≡ true
     unfolding sizeFits
     made-sized =
@@ -130,11 +130,16 @@ module _ (body : List ℕ) (a b c d : ℕ) where
     made-asked : anyPositive (questionWords made) ≡ false
     made-asked = rw (made-trailer 0, made-body) negative
 
+    made-unmarked : questionRestricted made ≡ false
+    unfolding made
+    made-unmarked =
+        rw (made-trailer 0, List·getD-append body (a ∷ b ∷ c ∷ d ∷ []) 0 a (omega arith)) unmarked
+
     made-judged : judge made ≡ record { status = 0; place = 0; clauses = b; question = a }
     unfolding judge judgeBody judgeRead
     made-judged =
         let faultless : bodyFault 0 0 (bodyOf made) ≡ none = rw made-body sound in
-        rw (made-sized, made-trailed, made-printed, faultless, made-counted, made-asked, made-trailer 1, made-trailer 0)
+        rw (made-sized, made-trailed, made-printed, faultless, made-counted, made-asked, made-unmarked, made-trailer 1, made-trailer 0)
 
 -- the file of a table
 module _ (t : Table) (h : FileWithin t) where
@@ -160,6 +165,13 @@ module _ (t : Table) (h : FileWithin t) where
   body-long =
       ap (λ (us : List ℕ). length us) body-split ∙ length-append (clausesWords (t .clauses)) (clauseWords (t .question))
 
+  question-mark : restrictedOf (getD (bodyWords t) (length (clausesWords (t .clauses))) 0) ≡ false
+  unfolding clauseWords
+  question-mark =
+      let q = t .question in
+      rw (body-split, getD-append-seam (clausesWords (t .clauses)) _ _ 0)
+      (clause-restricted (length (q .literals)) (q .variables) (length (literalsWords (q .literals))) (omega (arith, asks .few)) (omega (arith, asks .variables)) (omega (arith, asks .follow)) (q .restricted) ∙ h .unmarked)
+
   pub file-accepted : judge (fileWords t) ≡ record { status = 0; place = 0; clauses = length (allClauses t); question = length (clausesWords (t .clauses)) }
   unfolding fileWords made
   file-accepted =
@@ -175,6 +187,7 @@ module _ (t : Table) (h : FileWithin t) where
       (table-count t (h .table))
       begins
       (rw (body-split, drop-append-seam (clausesWords (t .clauses)) (clauseWords (t .question))) (clause-not-positive (t .question) asks (h .question)))
+      question-mark
 
 -- an accepted file is the file of its table
 four : (xs : List ℕ) → length xs ≡ 4 → xs ≡ getD xs 0 0 ∷ getD xs 1 0 ∷ getD xs 2 0 ∷ getD xs 3 0 ∷ []
@@ -200,6 +213,7 @@ module _ (file : List ℕ) (small : Words file) (z : judge file .status ≡ 0) w
   file-within = record {
     table = accepted-within file z;
     question = question-negative file z;
+    unmarked = question-unmarked file z;
     short = omega (arith, ap (λ (us : List ℕ). length us) encoded, body-length file, accepted file z .least, accepted file z .most);
   }
 

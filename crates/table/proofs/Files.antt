@@ -6,12 +6,13 @@ use mathlib.Core.Option.{Option, none, some}
 use Prim.Native.Nat.{ℕ, _-_, _≤_, _<_}
 use native.Mathlib.Omega.{arith}
 use lib.Dec.{eqb, leb, ltb}
-use lib.ListN.{length, take, drop}
+use lib.ListN.{length, take, drop, getD}
 use lib.Seq.{length-take-le}
 use borrow.Author.Tests.{eq-eqb, ne-eqb, le-leb, lt-leb, eqb-true, leb-true, ltb-true}
+use Rattle.words.specs.Fields.{restrictedOf}
 use Rattle.words.specs.Fingerprint.{fingerprint}
 use Rattle.table.specs.Body.{bodyFault, lastOf, anyPositive}
-use Rattle.table.specs.File.{bodyOf, trailer, clauseStarts, sizeFits, trailerFits, fingerprintFits, clausesFit, questionWords, refused, judgeRead, judgeBody, judge}
+use Rattle.table.specs.File.{bodyOf, trailer, clauseStarts, sizeFits, trailerFits, fingerprintFits, clausesFit, questionWords, questionRestricted, refused, judgeRead, judgeBody, judge}
 use Rattle.table.specs.Readers.{bodyRead}
 use Rattle.table.specs.declared.Judgement.{Judgement}
 use Rattle.table.proofs.Bools.{and-left, and-right}
@@ -75,7 +76,14 @@ module _ (file : List ℕ) {t0 q0 : ℕ} (e0 : t0 ≡ trailer file 0) (w0 : q0 �
       ∙ ap (λ (l : List ℕ). anyPositive l) (part-from (bodyOf file) q0)
       ∙ ap (λ (n : ℕ). anyPositive (drop n (bodyOf file))) (w0 ∙ e0)
 
-pub ruleset question-laws = (body-length, question-within, question-last)
+  -- its own word stands in the file
+  pub question-in : trailerFits file ≡ true → q0 < length file
+  question-in fits = let right = trailer-right file fits in omega (arith, right .whole, right .below)
+
+  pub question-mark : {m : Bool} → m ≡ restrictedOf (getD file q0 0) → m ≡ questionRestricted file
+  question-mark em = em ∙ ap (λ (n : ℕ). restrictedOf (getD file n 0)) (w0 ∙ e0)
+
+pub ruleset question-laws = (body-length, question-within, question-last, question-in, question-mark)
 
 -- a body read with a fault keeps its status and place; one read with status 0 has no fault
 pub keep-fault : (file : List ℕ) {read : Judgement} (o : Option ℕ) → read ≡ bodyRead (bodyOf file) o → (read .status ≡ 0 → ⊥) → read ≡ judgeRead file o
@@ -125,13 +133,18 @@ module _ (file : List ℕ) {read : Judgement} (o : Option ℕ) (e : read ≡ bod
           unfolding judgeRead clausesFit
           question-refused t er = rw (sound, same-count, same-start, sym ea ∙ t, er)
 
-          pub file-accepted : a ≡ false → read ≡ judgeRead file o
-          unfolding judgeRead clausesFit
-          file-accepted t =
-              rw (sound, same-count, same-start, sym ea ∙ t)
-              (λ i. record { status = z i; place = ap (λ (j : Judgement). j .place) (rw sound at e) i; clauses = (p1 ∙ w1 ∙ e1) i; question = question-is i })
+          module _ (t : a ≡ false) {m : Bool} (em : m ≡ questionRestricted file) where
+            pub mark-refused : m ≡ true → {r : Judgement} → r ≡ refused 21 0 → r ≡ judgeRead file o
+            unfolding judgeRead clausesFit
+            mark-refused u er = rw (sound, same-count, same-start, sym ea ∙ t, sym em ∙ u, er)
 
-pub ruleset read-laws = (keep-fault, count-differs, start-differs, question-refused, file-accepted)
+            pub file-accepted : m ≡ false → read ≡ judgeRead file o
+            unfolding judgeRead clausesFit
+            file-accepted u =
+                rw (sound, same-count, same-start, sym ea ∙ t, sym em ∙ u)
+                (λ i. record { status = z i; place = ap (λ (j : Judgement). j .place) (rw sound at e) i; clauses = (p1 ∙ w1 ∙ e1) i; question = question-is i })
+
+pub ruleset read-laws = (keep-fault, count-differs, start-differs, question-refused, mark-refused, file-accepted)
 
 -- the fingerprint, then the body; the size, then the trailer
 module _ (file : List ℕ) where

@@ -15,4 +15,5 @@ pub mod AcceptedTable
 pub mod FileEncoding
 pub mod Meaning
 pub mod Building
+pub mod Desks
 pub mod Examples

@@ -1,5 +1,5 @@
 -- What a body and a file are: a body is read without refusal exactly when it is the encoding of a table within document 01's limits, a file is
--- accepted exactly when it is the file of such a table with all literals of the question negative, and that table is one.
+-- accepted exactly when it is the file of such a table with all literals of the question negative and the question not restricted, and that table is one.
 use mathlib.Core.Path.{_≡_, sym, ap, _∙_}
 use mathlib.Core.Logic.{_↔_}
 use mathlib.Core.List.{List}

@@ -2,12 +2,12 @@
 -- What the words of a body say, as terms, literals, clauses and a table (Syntax). Prefix code read from the right with a stack: a variable is
 -- pushed, a symbol takes as many terms off as it has arguments and is pushed. So the first term of a list of words is the term that stands
 -- where the list begins, and the others are the terms after it, up to the next literal.
-use mathlib.Core.Bool.{cond}
+use mathlib.Core.Bool.{false, cond}
 use mathlib.Core.List.{List, [], _∷_, map}
 use Prim.Native.Nat.{ℕ, zero, suc}
 use lib.Dec.{eqb}
 use lib.ListN.{take, drop}
-use Rattle.words.specs.Fields.{kindOf, numberOf, symbolOf, arityOf, negativeOf, variablesOf, followingOf}
+use Rattle.words.specs.Fields.{kindOf, numberOf, symbolOf, arityOf, negativeOf, variablesOf, followingOf, restrictedOf}
 use Rattle.table.specs.Syntax.{Term, var, app, Terms, nil, _then_, Literal, Clause, Table}
 
 unfoldable pub first : {X : Type 0} → ℕ → Terms X → Terms X
@@ -43,8 +43,8 @@ literalsFrom (w ∷ ws) = beforeLiterals w (termsFrom ws) (literalsFrom ws)
 
 -- a clause from its own words
 unfoldable pub clauseOf : List ℕ → Clause
-clauseOf [] = record { variables = 0; literals = [] }
-clauseOf (w ∷ ws) = record { variables = variablesOf w; literals = literalsFrom ws }
+clauseOf [] = record { restricted = false; variables = 0; literals = [] }
+clauseOf (w ∷ ws) = record { restricted = restrictedOf w; variables = variablesOf w; literals = literalsFrom ws }
 
 -- the clauses' words, one part for each clause; the number counts the words still to pass of the present clause
 unfoldable pub partsFrom : ℕ → List ℕ → List (List ℕ)
@@ -61,7 +61,7 @@ withQuestion c [] = record { clauses = []; question = c }
 withQuestion c (d ∷ ds) = record { clauses = c ∷ withQuestion d ds .clauses; question = withQuestion d ds .question }
 
 unfoldable pub asTable : List Clause → Table
-asTable [] = record { clauses = []; question = record { variables = 0; literals = [] } }
+asTable [] = record { clauses = []; question = record { restricted = false; variables = 0; literals = [] } }
 asTable (c ∷ cs) = withQuestion c cs
 
 -- the table of a body

@@ -25,7 +25,7 @@ literalsWords (l ∷ ls) = literalWords l ++ literalsWords ls
 
 unfoldable pub clauseWords : Clause → List ℕ
 clauseWords c =
-    clauseWord (length (c .literals)) (c .variables) (length (literalsWords (c .literals))) ∷ literalsWords (c .literals)
+    clauseWord (c .restricted) (length (c .literals)) (c .variables) (length (literalsWords (c .literals))) ∷ literalsWords (c .literals)
 
 unfoldable pub clausesWords : List Clause → List ℕ
 clausesWords [] = []

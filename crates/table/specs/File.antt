@@ -1,4 +1,4 @@
--- The judgement of a question file (document 01, statuses 4 to 9), and the lookup of a clause.
+-- The judgement of a question file (document 01, statuses 4 to 9, and document 02's 21), and the lookup of a clause.
 use mathlib.Core.Bool.{Bool, cond, _&&_}
 use mathlib.Core.List.{List}
 use mathlib.Core.Option.{Option, none, some}
@@ -7,7 +7,7 @@ use Prim.Native.Nat.{ℕ, _+_, _-_, _*_}
 use lib.Dec.{eqb, leb, ltb}
 use lib.ListN.{length, take, drop, getD}
 use denote.Ref.{RefT, now}
-use Rattle.words.specs.Fields.{followingOf}
+use Rattle.words.specs.Fields.{followingOf, restrictedOf}
 use Rattle.words.specs.Fingerprint.{fingerprint}
 use Rattle.table.specs.Body.{bodyFault, starts, lastOf, anyPositive}
 use Rattle.table.specs.Decode.{tableOf}
@@ -51,15 +51,20 @@ clausesFit file =
 abbrev pub questionWords : List ℕ → List ℕ
 questionWords file = drop (trailer file 0) (bodyOf file)
 
+-- status 21: a restricted question
+abbrev pub questionRestricted : List ℕ → Bool
+questionRestricted file = restrictedOf (getD file (trailer file 0) 0)
+
 abbrev pub refused : ℕ → ℕ → Judgement
 refused status place = record { status = status; place = place; clauses = 0; question = 0 }
 
--- The checks run 4 to 9. Status 7: malformed body; place = word.
+-- The checks run 4 to 9, then 21. Status 7: malformed body; place = word.
 unfoldable pub judgeRead : List ℕ → Option ℕ → Judgement
 judgeRead file (some place) = refused 7 place
 judgeRead file none =
     cond (clausesFit file)
-    (cond (anyPositive (questionWords file)) (refused 9 0) (record { status = 0; place = 0; clauses = trailer file 1; question = trailer file 0 }))
+    (cond (anyPositive (questionWords file)) (refused 9 0)
+    (cond (questionRestricted file) (refused 21 0) (record { status = 0; place = 0; clauses = trailer file 1; question = trailer file 0 })))
     (refused 8 0)
 
 unfoldable pub judgeBody : List ℕ → Judgement

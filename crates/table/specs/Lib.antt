@@ -1,4 +1,5 @@
 pub mod Syntax
+pub mod Seen
 pub mod Encode
 pub mod Reading
 pub mod Body

@@ -1,5 +1,5 @@
 -- Document 01's limits on a table, and a body that is read without refusal.
-use mathlib.Core.Bool.{true}
+use mathlib.Core.Bool.{true, false}
 use mathlib.Core.List.{List, [], _∷_}
 use mathlib.Core.Option.{none}
 use mathlib.Core.Path.{_≡_}
@@ -42,10 +42,12 @@ pub record Within (t : Table) : Type 0 where
   pub few : length (allClauses t) ≤ 512
   pub clauses : Each ClauseWithin (allClauses t)
 
--- a table that a file can hold: within the limits, all literals of the question negative, at most 16,000 words with the trailer
+-- a table that a file can hold: within the limits, all literals of the question negative, the question not restricted, at most 16,000 words with
+-- the trailer
 pub record FileWithin (t : Table) : Type 0 where
   pub table : Within t
   pub question : Each (λ l. l .negative ≡ true) (t .question .literals)
+  pub unmarked : t .question .restricted ≡ false
   pub short : length (bodyWords t) + 4 ≤ 16000
 
 -- words have 32 bits

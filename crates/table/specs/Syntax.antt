@@ -25,8 +25,9 @@ pub record Literal (X : Type 0) : Type 0 where
   pub predicate : ℕ
   pub arguments : Terms X
 
--- A clause has literals over variables 0, 1, … below its variable count.
+-- A clause has literals over variables 0, 1, … below its variable count. It may be marked as restricted (document 02, order 8).
 pub record Clause : Type 0 where
+  pub restricted : Bool
   pub variables : ℕ
   pub literals : List (Literal ℕ)
 

@@ -11,7 +11,7 @@ ghost use Prim.Native.Nat.{_≤_, _<_};
 ghost use lib.ListN.{length, getD};
 ghost use Rattle.words.specs.Fingerprint.{fingerprint};
 ghost use Rattle.table.specs.Body.{bodyFault, starts, positive, anyPositive};
-ghost use Rattle.table.specs.File.{bodyOf, trailer, clauseStarts, trailerFits, questionWords, refused, judgeRead, judgeBody, judge, partFrom, clausePart, Stands};
+ghost use Rattle.table.specs.File.{bodyOf, trailer, clauseStarts, trailerFits, questionWords, questionRestricted, refused, judgeRead, judgeBody, judge, partFrom, clausePart, Stands};
 ghost use Rattle.table.specs.Readers.{bodyRead, BeginsAt};
 
 fn refused(status: u32, place: usize) -> Judgement
@@ -126,6 +126,16 @@ fn question_positive(file: &[u32]) -> bool
     any_positive(&body[question..])
 }
 
+// The question's own word carries the mark.
+fn question_restricted(file: &[u32]) -> bool
+    requires { ⌜ 4 ≤ length (now file) ⌝ }
+    requires { ⌜ trailerFits (now file) ≡ true ⌝ }
+    ensures { λ r. ⌜ r ≡ questionRestricted (now (file .entry)) ⌝ }
+{
+    let question = fields::wide(trailer(file, 0));
+    fields::restricted(file[question])
+}
+
 // The clauses read against the trailer, then the question.
 fn judge_read(file: &[u32], read: Judgement) -> Judgement
     requires { ⌜ 4 ≤ length (now file) ⌝ }
@@ -146,6 +156,9 @@ fn judge_read(file: &[u32], read: Judgement) -> Judgement
     }
     if question_positive(file) {
         return refused(9, 0);
+    }
+    if question_restricted(file) {
+        return refused(21, 0);
     }
     read
 }

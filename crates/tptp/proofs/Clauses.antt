@@ -114,7 +114,7 @@ unfolding clausesItems clauseItems span Each
 span-none ps fs [] e = refl
 span-none ps fs (c ∷ cs) e =
     let n : length (c .literals) ≤ 7 = clause-few (c .role) (length (c .literals)) (roleName (c .role)) (e .0) in
-    let k : kindOf (clauseWord (length (c .literals)) 0 0) ≡ 3 = clause-kind (length (c .literals)) 0 0 (omega arith) (omega arith) (omega arith) in
+    let k : kindOf (clauseWord false (length (c .literals)) 0 0) ≡ 3 = clause-kind (length (c .literals)) 0 0 (omega arith) (omega arith) (omega arith) false in
     rw (clause-bare ps fs (c .role) (length (c .literals)) n, k)
 
 clauses-snoc : (ps fs : List Name) (done : List Clause) (c : Clause)
@@ -270,7 +270,7 @@ module _ {text places words : List ℕ} {at : ℕ} (inv : Completing text places
   room-here =
       omega (arith, length-drop (at + 1) words, ap (λ (l : List ℕ). length l) after-here, length-append (map (withPredicate ps fs) (literalsItems ls)) after, mapped-long)
 
-  own-word : getD words at 0 ≡ clauseWord (length ls) 0 0
+  own-word : getD words at 0 ≡ clauseWord false (length ls) 0 0
   own-word = head-is words at h left-here ∙ clause-bare ps fs (next .this .role) (length ls) own-few
 
   pub word-low : getD words at 0 < 4000000000

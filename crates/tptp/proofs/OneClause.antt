@@ -29,15 +29,15 @@ literals-long ps fs vs [] = refl
 literals-long ps fs vs (l ∷ ls) = ap suc (literals-long ps fs vs ls)
 
 -- a clause's word before it is completed
-clause-shape : (r : Role) (n : ℕ) → shapeBy (clauseSort r) n ≡ clauseWord n 0 0
+clause-shape : (r : Role) (n : ℕ) → shapeBy (clauseSort r) n ≡ clauseWord false n 0 0
 unfolding shapeBy
 clause-shape Axiom n = refl
 clause-shape Hypothesis n = refl
 clause-shape NegatedConjecture n = refl
 
-pub clause-bare : (ps fs : List Name) (r : Role) (n : ℕ) → n ≤ 7 → withPredicate ps fs (record { sort = clauseSort r; parts = n; name = roleName r }) ≡ clauseWord n 0 0
+pub clause-bare : (ps fs : List Name) (r : Role) (n : ℕ) → n ≤ 7 → withPredicate ps fs (record { sort = clauseSort r; parts = n; name = roleName r }) ≡ clauseWord false n 0 0
 clause-bare ps fs r n h =
-    let k : kindOf (clauseWord n 0 0) ≡ 3 = clause-kind n 0 0 (omega arith) (omega arith) (omega arith) in rw (clause-shape r n, k, k)
+    let k : kindOf (clauseWord false n 0 0) ≡ 3 = clause-kind n 0 0 (omega arith) (omega arith) (omega arith) false in rw (clause-shape r n, k, k)
 
 module _ (ps fs : List Name) (ls : List Literal) (good : Good ps fs (variables ls) (literalsItems ls)) where
   pub clause-uses : usesOf 0 (map (withPredicate ps fs) (literalsItems ls)) (itemNames (literalsItems ls)) ≡ variableUses ls
@@ -59,7 +59,7 @@ module _ (ps fs : List Name) (ls : List Literal) (good : Good ps fs (variables l
   pub words-long : length (literalsWords (literalsSaid ps fs (variables ls) ls)) ≡ length (literalsItems ls)
   words-long = ap (λ (l : List ℕ). length l) (sym words-all) ∙ length-map (literalsItems ls) (withVariable ps fs (variables ls))
 
-  pub clause-completed : {w : ℕ} → w ≡ clauseWord (length ls) 0 0 → {many : ℕ} → many ≡ length (variables ls) → {following : ℕ} → following ≡ length (literalsItems ls)
+  pub clause-completed : {w : ℕ} → w ≡ clauseWord false (length ls) 0 0 → {many : ℕ} → many ≡ length (variables ls) → {following : ℕ} → following ≡ length (literalsItems ls)
       → (following * 2 ^ 8 + many * 2 ^ 3 + w) ∷ literalsWords (literalsSaid ps fs (variables ls) ls) ≡ clauseWords (clauseSaid ps fs ls)
   unfolding clauseWords clauseSaid
   clause-completed {w} a {many} b {following} c =

@@ -1,4 +1,5 @@
 -- What is promised of reading a text.
+use mathlib.Core.Bool.{false}
 use mathlib.Core.List.{List, [], _∷_, _++_}
 use mathlib.Core.Logic.{_↔_}
 use mathlib.Core.Path.{_≡_, refl, sym, ap, _∙_}
@@ -17,7 +18,7 @@ use Rattle.table.specs.Encode.{bodyWords, fileWords}
 use Rattle.table.specs.Limits.{FileWithin}
 use Rattle.table.specs.File.{judge, tableIn}
 use Rattle.table.proofs.FileEncoding.{file-accepted, file-decoded}
-use Rattle.tptp.specs.Said.{tableSaid}
+use Rattle.tptp.specs.Said.{clauseSaid, tableSaid}
 use Rattle.tptp.specs.declared.TextRead.{TextRead}
 use Rattle.tptp.specs.Reads.{Fits, Denied, Answered, unasked, over, positive, read, Reads, wrong, fine}
 use Rattle.tptp.specs.Promises.{Same, OneOutcome, WrongExactly, Exactly, StatusExactly, Written, FileAccepted, RefusalChangesNothing}
@@ -109,14 +110,19 @@ pub status-exactly : StatusExactly
 unfolding StatusExactly
 status-exactly text file r left cs h y a = exactly (answered-as h y a)
 
+-- the text carries no mark
+said-unmarked : (cs : List Clause) → tableSaid cs .question .restricted ≡ false
+unfolding tableSaid clauseSaid
+said-unmarked cs = refl
+
 -- a file that is written
-module _ (t : Table) (room : ℕ) (f : Fits t room) (d : Denied t) where
+module _ (t : Table) (room : ℕ) (f : Fits t room) (d : Denied t) (u : t .question .restricted ≡ false) where
   file-long : length (fileWords t) ≡ length (bodyWords t) + 4
   unfolding fileWords
   file-long = length-append (bodyWords t) _
 
   fits-file : FileWithin t
-  fits-file = record { table = f .within; question = d; short = omega (arith, f .short, file-long) }
+  fits-file = record { table = f .within; question = d; unmarked = u; short = omega (arith, f .short, file-long) }
 
   written-accepted : judge (fileWords t) .status ≡ 0
   written-accepted = ap (λ (j : Judgement). j .status) (file-accepted t fits-file)
@@ -129,8 +135,8 @@ written (unasked a) e = absurd (omega arith)
 written (over a b) e = absurd (omega arith)
 written (positive a b c) e = absurd (omega arith)
 written {cs} {file} (read a b c) e = record {
-  judged = rw (take-append-seam (fileWords (tableSaid cs)) (drop (length (fileWords (tableSaid cs))) file)) (written-accepted (tableSaid cs) (length file) b c);
-  table = rw (take-append-seam (fileWords (tableSaid cs)) (drop (length (fileWords (tableSaid cs))) file)) (written-table (tableSaid cs) (length file) b c);
+  judged = rw (take-append-seam (fileWords (tableSaid cs)) (drop (length (fileWords (tableSaid cs))) file)) (written-accepted (tableSaid cs) (length file) b c (said-unmarked cs));
+  table = rw (take-append-seam (fileWords (tableSaid cs)) (drop (length (fileWords (tableSaid cs))) file)) (written-table (tableSaid cs) (length file) b c (said-unmarked cs));
   later = drop-append-seam (fileWords (tableSaid cs)) (drop (length (fileWords (tableSaid cs))) file);
 }
 

@@ -47,7 +47,7 @@ few-parts (suc (suc zero)) parts e = omega (arith, leb-true parts 4 e)
 few-parts (suc (suc (suc zero))) parts e = omega (arith, leb-true parts 4 e)
 few-parts (suc (suc (suc (suc n)))) parts e = leb-true parts 7 e
 
-clause-shape : (sort parts : ℕ) → (sort ≡ 0 → ⊥) → (sort ≡ 1 → ⊥) → (sort ≡ 2 → ⊥) → (sort ≡ 3 → ⊥) → clauseWord parts 0 0 ≡ shapeBy sort parts
+clause-shape : (sort parts : ℕ) → (sort ≡ 0 → ⊥) → (sort ≡ 1 → ⊥) → (sort ≡ 2 → ⊥) → (sort ≡ 3 → ⊥) → clauseWord false parts 0 0 ≡ shapeBy sort parts
 unfolding shapeBy
 clause-shape zero parts a b c d = absurd (a refl)
 clause-shape (suc zero) parts a b c d = absurd (b refl)
@@ -76,7 +76,7 @@ module _ (mark : ℕ) (f : fitsOf mark ≡ true) where
   positive-shape e q = q ∙ rw (e, kept)
 
   pub other-shape : {r : ℕ} → (mark % 8 ≡ 0 → ⊥) → (mark % 8 ≡ 1 → ⊥) → (mark % 8 ≡ 2 → ⊥) → (mark % 8 ≡ 3 → ⊥)
-      → r ≡ clauseWord (mark / 8 % 2 ^ 3) (0 % 2 ^ 5) (0 % 2 ^ 8) → r ≡ shapeOf mark
+      → r ≡ clauseWord false (mark / 8 % 2 ^ 3) (0 % 2 ^ 5) (0 % 2 ^ 8) → r ≡ shapeOf mark
   other-shape a b c d q = q ∙ rw kept (clause-shape (mark % 8) (mark / 8) a b c d)
 
 pub ruleset shape-laws = (variable-shape, function-shape, positive-shape, negative-shape, other-shape)

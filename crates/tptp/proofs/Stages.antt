@@ -56,7 +56,7 @@ bare-kind zero parts e = refl
 bare-kind (suc zero) parts e = function-kind 0 parts (omega arith) (omega (arith, few-parts 1 parts e))
 bare-kind (suc (suc zero)) parts e = literal-kind 0 parts (omega arith) (omega (arith, few-parts 2 parts e)) true
 bare-kind (suc (suc (suc zero))) parts e = literal-kind 0 parts (omega arith) (omega (arith, few-parts 3 parts e)) false
-bare-kind (suc (suc (suc (suc n)))) parts e = clause-kind parts 0 0 (omega (arith, few-parts (suc (suc (suc (suc n)))) parts e)) (omega arith) (omega arith)
+bare-kind (suc (suc (suc (suc n)))) parts e = clause-kind parts 0 0 (omega (arith, few-parts (suc (suc (suc (suc n)))) parts e)) (omega arith) (omega arith) false
 
 bare-low : (sort parts : ℕ) → fitsBy sort parts ≡ true → shapeBy sort parts % 2 ^ 30 < 2 ^ 17
 unfolding shapeBy

@@ -72,10 +72,10 @@ unfoldable pub literalsSaid : List Name → List Name → List Name → List Lit
 literalsSaid ps fs vs [] = []
 literalsSaid ps fs vs (l ∷ ls) = literalSaid ps fs vs l ∷ literalsSaid ps fs vs ls
 
--- a clause has as many variables as it names
+-- a clause has as many variables as it names, and no mark
 unfoldable pub clauseSaid : List Name → List Name → List Literal → ClauseSaid
 clauseSaid ps fs ls =
-    record { variables = length (variables ls); literals = literalsSaid ps fs (variables ls) ls }
+    record { restricted = false; variables = length (variables ls); literals = literalsSaid ps fs (variables ls) ls }
 
 unfoldable pub clausesSaid : List Name → List Name → List (List Literal) → List ClauseSaid
 clausesSaid ps fs [] = []

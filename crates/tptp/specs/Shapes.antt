@@ -21,7 +21,7 @@ shapeBy zero parts = variableWord 0
 shapeBy (suc zero) parts = functionWord 0 parts
 shapeBy (suc (suc zero)) parts = literalWord true 0 parts
 shapeBy (suc (suc (suc zero))) parts = literalWord false 0 parts
-shapeBy (suc (suc (suc (suc n)))) parts = clauseWord parts 0 0
+shapeBy (suc (suc (suc (suc n)))) parts = clauseWord false parts 0 0
 
 -- at most 4 arguments, at most 7 literals
 unfoldable pub fitsBy : ℕ → ℕ → Bool

@@ -37,7 +37,7 @@ fn shape(mark: u32) -> u32
     if sort == 3 {
         return fields::literal_word(false, 0, parts);
     }
-    fields::clause_word(parts, 0, 0)
+    fields::clause_word(false, parts, 0, 0)
 }
 
 // Writes the words of the marks, unless a mark has too many parts.

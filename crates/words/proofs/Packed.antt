@@ -2,14 +2,14 @@
 use mathlib.Core.Path.{_≡_, refl, sym, ap, _∙_}
 use mathlib.Core.Bool.{Bool, true, false, _&&_, not, and-eq-true-iff}
 use Prim.Native.Nat.{ℕ, zero, suc, _+_, _-_, _*_, _/_, _%_, _^_, _≤_, _<_}
-use native.Mathlib.Nat.{mod-lt, zero-add, zero-mul}
+use native.Mathlib.Nat.{mod-lt, zero-add, zero-mul, div-one}
 use native.Mathlib.Omega.{arith}
 use lib.Dec.{eqb, leb}
 use lib.Pow.{pow-pos, split, shr-mod, mod-pow-add}
 use borrow.Author.Tests.{eqb-true, eqb-false, eq-eqb, ne-eqb, leb-true, le-leb, not-true}
-use Rattle.words.specs.Fields.{bits, kindOf, numberOf, symbolOf, arityOf, signOf, negativeOf, literalsOf, variablesOf, followingOf}
+use Rattle.words.specs.Fields.{bits, kindOf, numberOf, symbolOf, arityOf, signOf, negativeOf, literalsOf, variablesOf, followingOf, restrictedOf}
 use Rattle.words.specs.Fields.{plain, variableShaped, functionShaped, literalShaped, counted, clauseShaped}
-use Rattle.words.specs.Fields.{variableWord, functionWord, signBit, literalWord, clauseWord}
+use Rattle.words.specs.Fields.{variableWord, functionWord, signBit, literalWord, markBit, clauseWord}
 
 not-zero : (n : ℕ) → not (eqb n 0) ≡ true → 1 ≤ n
 not-zero zero e = omega (arith, eqb-false 0 0 (not-true (eqb 0 0) e) refl)
@@ -136,39 +136,71 @@ module _ (w : ℕ) (s : literalShaped w ≡ true) where
 
 -- clauses
 module _ (l v f : ℕ) (ls : l < 2 ^ 3) (vs : v < 2 ^ 5) (small : f < 2 ^ 8) where
-  pub clause-kind : kindOf (clauseWord l v f) ≡ 3
-  clause-kind = omega arith
+  pub clause-kind : (b : Bool) → kindOf (clauseWord b l v f) ≡ 3
+  clause-kind true = omega arith
+  clause-kind false = omega arith
 
-  pub clause-literals : literalsOf (clauseWord l v f) ≡ l
-  clause-literals = omega arith
+  pub clause-literals : (b : Bool) → literalsOf (clauseWord b l v f) ≡ l
+  clause-literals true = omega arith
+  clause-literals false = omega arith
 
-  pub clause-variables : variablesOf (clauseWord l v f) ≡ v
-  clause-variables = omega arith
+  pub clause-variables : (b : Bool) → variablesOf (clauseWord b l v f) ≡ v
+  clause-variables true = omega arith
+  clause-variables false = omega arith
 
-  pub clause-following : followingOf (clauseWord l v f) ≡ f
-  clause-following = omega arith
+  pub clause-following : (b : Bool) → followingOf (clauseWord b l v f) ≡ f
+  clause-following true = omega arith
+  clause-following false = omega arith
 
-  pub clause-shaped : 1 ≤ l → v ≤ 16 → 1 ≤ f → clauseShaped (clauseWord l v f) ≡ true
+  pub clause-restricted : (b : Bool) → restrictedOf (clauseWord b l v f) ≡ b
+  clause-restricted true = eq-eqb (bits 16 1 (clauseWord true l v f)) 1 (omega arith)
+  clause-restricted false = ne-eqb (bits 16 1 (clauseWord false l v f)) 1 (λ e. omega arith)
+
+  clause-rest : (b : Bool) → bits 17 13 (clauseWord b l v f) ≡ 0
+  clause-rest true = omega arith
+  clause-rest false = omega arith
+
+  pub clause-fits : (b : Bool) → clauseWord b l v f < 2 ^ 32
+  clause-fits true = omega arith
+  clause-fits false = omega arith
+
+  pub clause-shaped : (b : Bool) → 1 ≤ l → v ≤ 16 → 1 ≤ f → clauseShaped (clauseWord b l v f) ≡ true
   unfolding clauseShaped counted
-  clause-shaped lp vl fp =
+  clause-shaped b lp vl fp =
       rw (
-        plain-is 3 16 (clauseWord l v f) clause-kind (omega arith),
-        clause-literals,
-        clause-variables,
-        clause-following,
+        plain-is 3 17 (clauseWord b l v f) (clause-kind b) (clause-rest b),
+        clause-literals b,
+        clause-variables b,
+        clause-following b,
         ne-eqb l 0 (λ e. omega arith),
         ne-eqb f 0 (λ e. omega arith),
         le-leb v 16 vl,
       )
 
+counts-below : (w : ℕ) → w % 2 ^ 16 ≡ followingOf w * 2 ^ 8 + variablesOf w * 2 ^ 3 + literalsOf w
+counts-below w =
+    let following : w % 2 ^ 16 ≡ followingOf w * 2 ^ 8 + w % 2 ^ 8 = mod-pow-add w 8 8 in
+    let variables : w % 2 ^ 8 ≡ variablesOf w * 2 ^ 3 + w % 2 ^ 3 = mod-pow-add w 5 3 in
+    let literals : literalsOf w ≡ w % 2 ^ 3 = rw (div-one w) in
+    rw (following, variables, literals) (omega arith)
+
+sum-of-fields : (w m f v l : ℕ) {low lower : ℕ} → w ≡ 3 * 2 ^ 30 + low → low ≡ m * 2 ^ 16 + lower → lower ≡ f * 2 ^ 8 + v * 2 ^ 3 + l
+    → w ≡ 3 * 2 ^ 30 + m * 2 ^ 16 + f * 2 ^ 8 + v * 2 ^ 3 + l
+sum-of-fields w m f v l p q r = omega arith
+
+pub mark-bit : (n : ℕ) → n < 2 → markBit (eqb n 1) ≡ n * 2 ^ 16
+mark-bit zero h = refl
+mark-bit (suc zero) h = refl
+mark-bit (suc (suc n)) h = omega arith
+
 module _ (w : ℕ) (s : clauseShaped w ≡ true) where
-  pub clause-plain : plain 3 16 w ≡ true
+  pub clause-plain : plain 3 17 w ≡ true
   unfolding clauseShaped
-  clause-plain = and-eq-true-iff (plain 3 16 w) (counted w) .0 s .0
+  clause-plain = and-eq-true-iff (plain 3 17 w) (counted w) .0 s .0
 
   clause-counted : counted w ≡ true
   unfolding clauseShaped
-  clause-counted = and-eq-true-iff (plain 3 16 w) (counted w) .0 s .1
+  clause-counted = and-eq-true-iff (plain 3 17 w) (counted w) .0 s .1
 
   some-counted : not (eqb (literalsOf w) 0) && not (eqb (followingOf w) 0) ≡ true
   unfolding counted
@@ -188,5 +220,9 @@ module _ (w : ℕ) (s : clauseShaped w ≡ true) where
   clause-following-some =
       not-zero (followingOf w) (and-eq-true-iff (not (eqb (literalsOf w) 0)) (not (eqb (followingOf w) 0)) .0 some-counted .1)
 
-  pub clause-word : w < 2 ^ 32 → w ≡ clauseWord (literalsOf w) (variablesOf w) (followingOf w)
-  clause-word l = omega (arith, plain-word 3 16 w (omega arith) l clause-plain)
+  pub clause-word : w < 2 ^ 32 → w ≡ clauseWord (restrictedOf w) (literalsOf w) (variablesOf w) (followingOf w)
+  clause-word l =
+      let marked : w % 2 ^ 17 ≡ bits 16 1 w * 2 ^ 16 + w % 2 ^ 16 = mod-pow-add w 1 16 in
+      let counts : w % 2 ^ 16 ≡ followingOf w * 2 ^ 8 + variablesOf w * 2 ^ 3 + literalsOf w = counts-below w in
+      rw (mark-bit (bits 16 1 w) (bits-small 16 1 w))
+      (sum-of-fields w (bits 16 1 w) (followingOf w) (variablesOf w) (literalsOf w) (plain-word 3 17 w (omega arith) l clause-plain) marked counts)

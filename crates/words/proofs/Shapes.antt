@@ -45,10 +45,10 @@ module _ (w : ℕ) where
       counts n ve =
           rw (ne-eqb (literalsOf w) 0 (λ q. some (le ∙ q)), ne-eqb (followingOf w) 0 (λ q. n (fe ∙ q)), ve)
 
-  pub not-clause : {t : Bool} → t ≡ plain 3 16 w → t ≡ false → false ≡ clauseShaped w
+  pub not-clause : {t : Bool} → t ≡ plain 3 17 w → t ≡ false → false ≡ clauseShaped w
   unfolding clauseShaped
   not-clause e p = rw (sym e ∙ p)
 
-  pub clause : {t u : Bool} → t ≡ plain 3 16 w → t ≡ true → u ≡ counted w → u ≡ clauseShaped w
+  pub clause : {t u : Bool} → t ≡ plain 3 17 w → t ≡ true → u ≡ counted w → u ≡ clauseShaped w
   unfolding clauseShaped
   clause e p q = rw (sym e ∙ p, q)

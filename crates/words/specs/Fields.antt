@@ -40,6 +40,10 @@ variablesOf w = bits 3 5 w
 abbrev pub followingOf : ℕ → ℕ
 followingOf w = bits 8 8 w
 
+-- bit 16 set = restricted (document 02, order 8)
+abbrev pub restrictedOf : ℕ → Bool
+restrictedOf w = eqb (bits 16 1 w) 1
+
 -- a word's kind, and its bits from a given one up to bit 29 zero: bits not named are zero
 abbrev pub plain : ℕ → ℕ → ℕ → Bool
 plain kind from w = eqb (kindOf w) kind && eqb (bits from (30 - from) w) 0
@@ -60,7 +64,7 @@ unfoldable pub counted : ℕ → Bool
 counted w = not (eqb (literalsOf w) 0) && not (eqb (followingOf w) 0) && leb (variablesOf w) 16
 
 unfoldable pub clauseShaped : ℕ → Bool
-clauseShaped w = plain 3 16 w && counted w
+clauseShaped w = plain 3 17 w && counted w
 
 -- The words with given fields; bits not named are zero.
 abbrev pub variableWord : ℕ → ℕ
@@ -76,5 +80,9 @@ signBit false = 0
 abbrev pub literalWord : Bool → ℕ → ℕ → ℕ
 literalWord negative predicate arity = 2 * 2 ^ 30 + signBit negative + arity * 2 ^ 12 + predicate
 
-abbrev pub clauseWord : ℕ → ℕ → ℕ → ℕ
-clauseWord literals variables following = 3 * 2 ^ 30 + following * 2 ^ 8 + variables * 2 ^ 3 + literals
+abbrev pub markBit : Bool → ℕ
+markBit true = 2 ^ 16
+markBit false = 0
+
+abbrev pub clauseWord : Bool → ℕ → ℕ → ℕ → ℕ
+clauseWord restricted literals variables following = 3 * 2 ^ 30 + markBit restricted + following * 2 ^ 8 + variables * 2 ^ 3 + literals

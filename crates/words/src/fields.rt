@@ -1,9 +1,9 @@
 // The fields of a word, taken by shifts and masks and packed again (document 01, "Words of the question file").
 ghost use mathlib.Core.Path.{_≡_};
 ghost use Prim.Native.Nat.{_+_, _*_, _%_, _^_, _≤_, _<_};
-ghost use Rattle.words.specs.Fields.{bits, kindOf, numberOf, symbolOf, arityOf, signOf, negativeOf, literalsOf, variablesOf, followingOf};
+ghost use Rattle.words.specs.Fields.{bits, kindOf, numberOf, symbolOf, arityOf, signOf, negativeOf, literalsOf, variablesOf, followingOf, restrictedOf};
 ghost use Rattle.words.specs.Fields.{variableShaped, functionShaped, literalShaped, counted, clauseShaped, plain};
-ghost use Rattle.words.specs.Fields.{variableWord, functionWord, signBit, literalWord, clauseWord};
+ghost use Rattle.words.specs.Fields.{variableWord, functionWord, signBit, literalWord, markBit, clauseWord};
 
 // A word as an index or a count.
 pub fn wide(x: u32) -> usize
@@ -82,6 +82,13 @@ pub fn following(w: u32) -> u32
     bits(w, 8, 8)
 }
 
+// The mark of a restricted clause.
+pub fn restricted(w: u32) -> bool
+    ensures { λ r. ⌜ r ≡ restrictedOf w ⌝ }
+{
+    bits(w, 16, 1) == 1
+}
+
 // The word has this kind, and its bits from a given one up to bit 29 are zero.
 pub(crate) fn plain(w: u32, wanted: u32, from: u32) -> bool
     requires { ⌜ from < 30 ⌝ }
@@ -133,7 +140,7 @@ pub(crate) fn counted(w: u32) -> bool
 pub fn clause_shaped(w: u32) -> bool
     ensures { λ r. ⌜ r ≡ clauseShaped w ⌝ }
 {
-    if plain(w, 3, 16) {
+    if plain(w, 3, 17) {
         return counted(w);
     }
     false
@@ -162,7 +169,7 @@ pub fn function_word(symbol: u32, arity: u32) -> u32
 
 // A flag as a bit.
 pub(crate) fn flag(set: bool) -> u32
-    ensures { λ r. ⌜ (r < 2) × (r * 2 ^ 15 ≡ signBit set) ⌝ }
+    ensures { λ r. ⌜ (r < 2) × (r * 2 ^ 15 ≡ signBit set) × (r * 2 ^ 16 ≡ markBit set) ⌝ }
 {
     if set {
         return 1;
@@ -177,9 +184,9 @@ pub fn literal_word(negative: bool, predicate: u32, arity: u32) -> u32
     join(join(top, 3, low(arity, 3)), 12, low(predicate, 12))
 }
 
-pub fn clause_word(literals: u32, variables: u32, following: u32) -> u32
-    ensures { λ r. ⌜ r ≡ clauseWord (literals % 2 ^ 3) (variables % 2 ^ 5) (following % 2 ^ 8) ⌝ }
+pub fn clause_word(restricted: bool, literals: u32, variables: u32, following: u32) -> u32
+    ensures { λ r. ⌜ r ≡ clauseWord restricted (literals % 2 ^ 3) (variables % 2 ^ 5) (following % 2 ^ 8) ⌝ }
 {
-    let top = join(3, 22, low(following, 8));
+    let top = join(join(3, 14, flag(restricted)), 8, low(following, 8));
     join(join(top, 5, low(variables, 5)), 3, low(literals, 3))
 }

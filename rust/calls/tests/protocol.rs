@@ -49,6 +49,24 @@ fn a_check() {
 }
 
 #[test]
+fn education_asks_by_verbs_of_its_own() {
+    // The only clause is restricted: there is nothing to enter, and the question has number 0.
+    let marked = CASE_1.replace("C0000602", "C0010602").replace("1AE33758", "2763BFA1");
+    assert!(result(&format!("search 2 3 16384 199 6 / {marked}")).starts_with("status 0 "));
+    assert_eq!(
+        result(&format!("edu-search 2 3 16384 199 6 / {marked}")),
+        "status 10 place 0 proof 0 disjuncts 0 answer 0 tries 0 / - / -"
+    );
+    assert_eq!(
+        result(&format!("edu-check 2 16384 9 / 40000000 40000001 / {marked}")),
+        "status 13 place 0 proof 0 disjuncts 0 answer 0 tries 0 / - / -"
+    );
+    for verb in ["search 2 3 16384 199 6", "check 2 16384 9 / 40000000 40000001"] {
+        assert_eq!(result(&format!("edu-{verb} / {CASE_1}")), result(&format!("{verb} / {CASE_1}")));
+    }
+}
+
+#[test]
 fn words_of_one_to_eight_digits_in_either_case() {
     let short =
         CASE_1.split(' ').map(|word| word.trim_start_matches('0')).map(|word| if word.is_empty() { "0" } else { word });

@@ -1,4 +1,4 @@
-//! Reading a question file, with the refusals 4 to 9, and writing one.
+//! Reading a question file, with the refusals 4 to 9 and 21, and writing one.
 
 use crate::report::{Report, Status};
 use crate::syntax::{Clause, Literal, Table, Term};
@@ -38,6 +38,9 @@ pub fn read(file: &[u32]) -> Result<QuestionFile, Report> {
     if read.table.question().literals.iter().any(|literal| !literal.negative) {
         return Err(Report::of(Status::PositiveQuestion));
     }
+    if read.table.question().restricted {
+        return Err(Report::of(Status::RestrictedQuestion));
+    }
     Ok(read)
 }
 
@@ -65,7 +68,7 @@ fn read_body(body: &[u32]) -> Result<QuestionFile, Malformed> {
 
 /// The clause at the front of the part, and its length.
 fn read_clause(part: &[u32]) -> Result<(Clause, usize), Malformed> {
-    let Some(Word::Clause { literals, variables, following }) = word::decode(part[0]) else {
+    let Some(Word::Clause { literals, variables, following, restricted }) = word::decode(part[0]) else {
         return Err(0);
     };
     let length = 1 + following as usize;
@@ -77,7 +80,7 @@ fn read_clause(part: &[u32]) -> Result<(Clause, usize), Malformed> {
     if reader.place < length {
         return Err(reader.place);
     }
-    Ok((Clause { variables, literals }, length))
+    Ok((Clause { restricted, variables, literals }, length))
 }
 
 struct Reader<'a> {
@@ -143,6 +146,7 @@ pub fn clause_words(clause: &Clause) -> Vec<u32> {
         literals: clause.literals.len() as u32,
         variables: clause.variables,
         following: words.len() as u32 - 1,
+        restricted: clause.restricted,
     });
     words
 }

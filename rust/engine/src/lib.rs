@@ -5,6 +5,7 @@
 //! work words are only wiped.
 
 mod answer;
+mod desk;
 mod equations;
 pub mod file;
 mod list;
@@ -17,6 +18,7 @@ pub mod syntax;
 pub mod tableau;
 pub mod word;
 
+pub use desk::Desk;
 pub use equations::Unequal;
 pub use report::{Report, Status};
 use search::{End, Search};
@@ -46,24 +48,47 @@ pub fn search(
     proof: &mut [u32],
     answer: &mut [u32],
 ) -> Report {
+    search_for(Desk::Collections, file, bound, budget, work, proof, answer)
+}
+
+pub fn search_for(
+    desk: Desk,
+    file: &[u32],
+    bound: u32,
+    budget: u32,
+    work: &mut [u32],
+    proof: &mut [u32],
+    answer: &mut [u32],
+) -> Report {
     if !wipe(work) {
         return Report::of(Status::WorkTooShort);
     }
     if proof.len() < PROOF_WORDS {
         return Report::of(Status::ProofTooShort);
     }
-    match admit(file, bound) {
-        Ok(table) => search_table(&table, bound, budget, proof, answer),
+    match admit(desk, file, bound) {
+        Ok(table) => search_table(Tableau::start(&table, bound), budget, proof, answer),
         Err(report) => report,
     }
 }
 
 pub fn check(file: &[u32], offered: &[u32], bound: u32, work: &mut [u32], answer: &mut [u32]) -> Report {
+    check_for(Desk::Collections, file, offered, bound, work, answer)
+}
+
+pub fn check_for(
+    desk: Desk,
+    file: &[u32],
+    offered: &[u32],
+    bound: u32,
+    work: &mut [u32],
+    answer: &mut [u32],
+) -> Report {
     if !wipe(work) {
         return Report::of(Status::WorkTooShort);
     }
-    match admit(file, bound) {
-        Ok(table) => check_table(&table, offered, bound, answer),
+    match admit(desk, file, bound) {
+        Ok(table) => check_table(Tableau::start(&table, bound), offered, answer),
         Err(report) => report,
     }
 }
@@ -77,16 +102,20 @@ fn wipe(work: &mut [u32]) -> bool {
     true
 }
 
-/// The checks 3 to 9.
-fn admit(file: &[u32], bound: u32) -> Result<Table, Report> {
+/// The table that the desk sees, after the checks 3 to 9 and 21 of the whole file.
+fn admit(desk: Desk, file: &[u32], bound: u32) -> Result<Table, Report> {
     if bound > LARGEST_BOUND {
         return Err(Report::of(Status::BoundTooLarge));
     }
-    Ok(file::read(file)?.table)
+    let table = file::read(file)?.table;
+    Ok(match desk {
+        Desk::Collections => table,
+        Desk::Education => table.unrestricted(),
+    })
 }
 
-fn search_table(table: &Table, bound: u32, budget: u32, proof: &mut [u32], answer: &mut [u32]) -> Report {
-    let mut search = Search::new(Tableau::start(table, bound), budget);
+fn search_table(tableau: Tableau, budget: u32, proof: &mut [u32], answer: &mut [u32]) -> Report {
+    let mut search = Search::new(tableau, budget);
     let end = search.run();
     let tries = search.tries;
     match end {
@@ -104,8 +133,7 @@ fn search_table(table: &Table, bound: u32, budget: u32, proof: &mut [u32], answe
     }
 }
 
-fn check_table(table: &Table, offered: &[u32], bound: u32, answer: &mut [u32]) -> Report {
-    let mut tableau = Tableau::start(table, bound);
+fn check_table(mut tableau: Tableau, offered: &[u32], answer: &mut [u32]) -> Report {
     for (place, &word) in offered.iter().enumerate() {
         let Some(step) = Step::decode(word) else {
             return Report::at(Status::MalformedStep, place);

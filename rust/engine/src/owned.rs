@@ -1,6 +1,6 @@
 //! The calls with buffers of their own, long enough for anything but a giant answer.
 
-use crate::{PROOF_WORDS, Report, WORK_WORDS};
+use crate::{Desk, PROOF_WORDS, Report, WORK_WORDS};
 
 pub const ANSWER_WORDS: usize = 20_000;
 
@@ -13,17 +13,25 @@ pub struct Outcome {
 }
 
 pub fn search(file: &[u32], bound: u32, budget: u32) -> Outcome {
+    search_for(Desk::Collections, file, bound, budget)
+}
+
+pub fn search_for(desk: Desk, file: &[u32], bound: u32, budget: u32) -> Outcome {
     let mut proof = vec![0; PROOF_WORDS];
     let mut answer = vec![0; ANSWER_WORDS];
-    let report = crate::search(file, bound, budget, &mut [0; WORK_WORDS], &mut proof, &mut answer);
+    let report = crate::search_for(desk, file, bound, budget, &mut [0; WORK_WORDS], &mut proof, &mut answer);
     proof.truncate(report.proof_words as usize);
     answer.truncate(report.answer_words as usize);
     Outcome { report, proof, answer }
 }
 
 pub fn check(file: &[u32], offered: &[u32], bound: u32) -> Outcome {
+    check_for(Desk::Collections, file, offered, bound)
+}
+
+pub fn check_for(desk: Desk, file: &[u32], offered: &[u32], bound: u32) -> Outcome {
     let mut answer = vec![0; ANSWER_WORDS];
-    let report = crate::check(file, offered, bound, &mut [0; WORK_WORDS], &mut answer);
+    let report = crate::check_for(desk, file, offered, bound, &mut [0; WORK_WORDS], &mut answer);
     answer.truncate(report.answer_words as usize);
     Outcome { report, proof: Vec::new(), answer }
 }

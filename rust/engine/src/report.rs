@@ -20,6 +20,7 @@ pub enum Status {
     LeavesOpen = 15,
     AnswerTooLong = 16,
     Circle = 20,
+    RestrictedQuestion = 21,
 }
 
 /// Numbers that the status does not name are 0.

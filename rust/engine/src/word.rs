@@ -3,6 +3,7 @@
 const KIND: u32 = 30;
 const ARITY: u32 = 12;
 const NEGATIVE: u32 = 1 << 15;
+const RESTRICTED: u32 = 1 << 16;
 
 /// A function, constant or predicate: number and arity together name it.
 #[derive(Clone, Copy, Debug, PartialEq, Eq, Hash, PartialOrd, Ord)]
@@ -16,7 +17,7 @@ pub enum Word {
     Variable(u32),
     Function(Symbol),
     Literal { predicate: Symbol, negative: bool },
-    Clause { literals: u32, variables: u32, following: u32 },
+    Clause { literals: u32, variables: u32, following: u32, restricted: bool },
 }
 
 /// What a word says; nothing if a field is out of its range or a bit without a name is set.
@@ -25,7 +26,12 @@ pub fn decode(word: u32) -> Option<Word> {
         0 => Word::Variable(word & 0x3FF),
         1 => Word::Function(symbol(word)),
         2 => Word::Literal { predicate: symbol(word), negative: word & NEGATIVE != 0 },
-        _ => Word::Clause { literals: word & 7, variables: word >> 3 & 31, following: word >> 8 & 255 },
+        _ => Word::Clause {
+            literals: word & 7,
+            variables: word >> 3 & 31,
+            following: word >> 8 & 255,
+            restricted: word & RESTRICTED != 0,
+        },
     };
     (in_range(meaning) && encode(meaning) == word).then_some(meaning)
 }
@@ -37,7 +43,9 @@ pub fn encode(word: Word) -> u32 {
         Word::Literal { predicate, negative } => {
             2 << KIND | if negative { NEGATIVE } else { 0 } | symbol_bits(predicate)
         }
-        Word::Clause { literals, variables, following } => 3 << KIND | following << 8 | variables << 3 | literals,
+        Word::Clause { literals, variables, following, restricted } => {
+            3 << KIND | if restricted { RESTRICTED } else { 0 } | following << 8 | variables << 3 | literals
+        }
     }
 }
 
@@ -54,6 +62,6 @@ fn in_range(word: Word) -> bool {
         Word::Variable(_) => true,
         Word::Function(symbol) => symbol.arity <= 4,
         Word::Literal { predicate, .. } => predicate.arity <= 4,
-        Word::Clause { literals, variables, following } => literals >= 1 && variables <= 16 && following >= 1,
+        Word::Clause { literals, variables, following, .. } => literals >= 1 && variables <= 16 && following >= 1,
     }
 }

@@ -128,7 +128,7 @@ fn long_fact(words: usize) -> Clause {
     let constant = Term::Application(Symbol { number: 1, arity: 0 }, Vec::new());
     let term = (3..words).fold(constant, |term, _| Term::Application(Symbol { number: 1, arity: 1 }, vec![term]));
     let predicate = Symbol { number: 1, arity: 1 };
-    Clause { variables: 0, literals: vec![Literal { negative: false, predicate, arguments: vec![term] }] }
+    Clause::open(0, vec![Literal { negative: false, predicate, arguments: vec![term] }])
 }
 
 fn asking_anything(mut clauses: Vec<Clause>) -> Table {
@@ -241,7 +241,7 @@ fn places_of_malformed_clauses() {
         (with(0, 0x8000_0602), 0),                            // not a clause word
         (with(0, 0xC000_0600), 0),                            // no literals
         (with(0, 0xC000_068A), 0),                            // 17 variables
-        (with(0, 0xC001_0602), 0),                            // a bit without a name
+        (with(0, 0xC002_0602), 0),                            // a bit without a name
         (with(0, 0xC000_0002), 0),                            // no words follow
         (with(0, 0xC000_0B02), 0),                            // past the body
         (with(7, 0xC000_0409), 7),                            // past the body

@@ -12,7 +12,7 @@ mod terms;
 mod words;
 
 use calls::{Engine, Lent};
-use engine::{LARGEST_BOUND, PROOF_WORDS, Report, Status, WORK_WORDS};
+use engine::{Desk, LARGEST_BOUND, PROOF_WORDS, Report, Status, WORK_WORDS};
 use index::{Index, Notes};
 use memory::Work;
 use read::{Accepted, accept};
@@ -42,30 +42,54 @@ pub fn search(
     proof: &mut [u32],
     answer: &mut [u32],
 ) -> Report {
+    search_for(Desk::Collections, file, bound, budget, work, proof, answer)
+}
+
+fn search_for(
+    desk: Desk,
+    file: &[u32],
+    bound: u32,
+    budget: u32,
+    work: &mut [u32],
+    proof: &mut [u32],
+    answer: &mut [u32],
+) -> Report {
     let Some(work) = work.first_chunk_mut::<WORK_WORDS>() else {
         return Report::of(Status::WorkTooShort);
     };
     let report = if proof.len() < PROOF_WORDS {
         Report::of(Status::ProofTooShort)
     } else {
-        admit(file, bound).map_or_else(|report| report, |file| search_file(&file, bound, budget, work, proof, answer))
+        admit(desk, file, bound)
+            .map_or_else(|report| report, |file| search_file(&file, bound, budget, work, proof, answer))
     };
     work.fill(0);
     report
 }
 
 pub fn check(file: &[u32], offered: &[u32], bound: u32, work: &mut [u32], answer: &mut [u32]) -> Report {
+    check_for(Desk::Collections, file, offered, bound, work, answer)
+}
+
+fn check_for(desk: Desk, file: &[u32], offered: &[u32], bound: u32, work: &mut [u32], answer: &mut [u32]) -> Report {
     let Some(work) = work.first_chunk_mut::<WORK_WORDS>() else {
         return Report::of(Status::WorkTooShort);
     };
     let report =
-        admit(file, bound).map_or_else(|report| report, |file| check_file(&file, offered, bound, work, answer));
+        admit(desk, file, bound).map_or_else(|report| report, |file| check_file(&file, offered, bound, work, answer));
     work.fill(0);
     report
 }
 
-fn admit(file: &[u32], bound: u32) -> Result<Accepted<'_>, Report> {
-    if bound > LARGEST_BOUND { Err(Report::of(Status::BoundTooLarge)) } else { accept(file) }
+fn admit(desk: Desk, file: &[u32], bound: u32) -> Result<Accepted<'_>, Report> {
+    if bound > LARGEST_BOUND {
+        return Err(Report::of(Status::BoundTooLarge));
+    }
+    let file = accept(file)?;
+    Ok(match desk {
+        Desk::Collections => file,
+        Desk::Education => file.unrestricted(),
+    })
 }
 
 fn search_file(
@@ -80,7 +104,7 @@ fn search_file(
         return Report::of(Status::NoProof);
     }
     NOTES.with_borrow_mut(|notes| {
-        search_index(&notes.index(file.body), file.question, bound, budget, work, proof, answer)
+        search_index(&notes.index(&file.body), file.question, bound, budget, work, proof, answer)
     })
 }
 
@@ -108,7 +132,7 @@ fn search_index(
 
 fn check_file(file: &Accepted, offered: &[u32], bound: u32, work: &mut Work, answer: &mut [u32]) -> Report {
     NOTES.with_borrow_mut(|notes| {
-        let index = notes.index(file.body);
+        let index = notes.index(&file.body);
         match check::check(&index, file.question, bound, offered, work) {
             Ok(copies) => write_answer(&index, offered.len(), copies, work, answer),
             Err((status, place)) => Report::at(status, place),
@@ -135,11 +159,11 @@ impl Engine for Fast {
         clause_range(file, number)
     }
 
-    fn search(&mut self, file: &[u32], bound: u32, budget: u32, lent: Lent) -> Report {
-        search(file, bound, budget, lent.work, lent.proof, lent.answer)
+    fn search(&mut self, desk: Desk, file: &[u32], bound: u32, budget: u32, lent: Lent) -> Report {
+        search_for(desk, file, bound, budget, lent.work, lent.proof, lent.answer)
     }
 
-    fn check(&mut self, file: &[u32], offered: &[u32], bound: u32, lent: Lent) -> Report {
-        check(file, offered, bound, lent.work, lent.answer)
+    fn check(&mut self, desk: Desk, file: &[u32], offered: &[u32], bound: u32, lent: Lent) -> Report {
+        check_for(desk, file, offered, bound, lent.work, lent.answer)
     }
 }

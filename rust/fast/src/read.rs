@@ -1,12 +1,30 @@
-//! Judging a file: the refusals 4 to 9. Nothing is built; the search works on the file's words.
+//! Judging a file: the refusals 4 to 9 and 21. Nothing is built, but for education a body without its restricted clauses; the search works on
+//! the file's words.
 
-use crate::words::{FUNCTION, LITERAL, NEGATIVE, arity, following, kind, literals, variables};
+use crate::words::{FUNCTION, LITERAL, NEGATIVE, RESTRICTED, arity, following, kind, literals, variables};
 use engine::{Report, Status};
+use std::borrow::Cow;
 
-#[derive(Clone, Copy)]
 pub struct Accepted<'a> {
-    pub body: &'a [u32],
+    pub body: Cow<'a, [u32]>,
     pub question: usize,
+}
+
+impl Accepted<'_> {
+    /// With the words of the unrestricted clauses alone.
+    pub fn unrestricted(&self) -> Accepted<'static> {
+        let mut body = Vec::new();
+        let (mut start, mut question) = (0, 0);
+        while start < self.body.len() {
+            let end = start + 1 + following(self.body[start]);
+            if self.body[start] & RESTRICTED == 0 {
+                question = body.len();
+                body.extend_from_slice(&self.body[start..end]);
+            }
+            start = end;
+        }
+        Accepted { body: Cow::Owned(body), question }
+    }
 }
 
 pub fn accept(file: &[u32]) -> Result<Accepted<'_>, Report> {
@@ -29,7 +47,10 @@ pub fn accept(file: &[u32]) -> Result<Accepted<'_>, Report> {
     if body[question..].iter().any(|&word| kind(word) == LITERAL && word & NEGATIVE == 0) {
         return Err(Report::of(Status::PositiveQuestion));
     }
-    Ok(Accepted { body, question })
+    if body[question] & RESTRICTED != 0 {
+        return Err(Report::of(Status::RestrictedQuestion));
+    }
+    Ok(Accepted { body: Cow::Borrowed(body), question })
 }
 
 const START: u32 = 0x811C_9DC5;
@@ -49,7 +70,7 @@ fn with_variable(hash: u32, word: u32) -> u32 {
     (hash ^ word).wrapping_mul(PRIME_4)
 }
 
-/// The same of any other word that fits: the third byte is 0, so two products are one.
+/// The same of any other word that fits and has no mark: the third byte is 0, so two products are one.
 #[inline(always)]
 fn with_word(hash: u32, word: u32) -> u32 {
     let [first, second, _, fourth] = word.to_le_bytes().map(u32::from);
@@ -81,10 +102,11 @@ fn judge_clause(body: &[u32], start: usize, hash: u32) -> (usize, u32, bool) {
     let mut literals = literals(clause);
     let variables = variables(clause);
     let end = start + 1 + following(clause);
-    if clause >> 16 != 0xC000 || literals == 0 || variables > 16 || end == start + 1 || end > body.len() {
+    if (clause & !RESTRICTED) >> 16 != 0xC000 || literals == 0 || variables > 16 || end == start + 1 || end > body.len()
+    {
         return (start, hash, false);
     }
-    let mut hash = with_word(hash, clause);
+    let mut hash = if clause & RESTRICTED == 0 { with_word(hash, clause) } else { fingerprint(hash, clause) };
     let mut terms = 0;
     for (place, &word) in (start + 1..).zip(&body[start + 1..end]) {
         if terms == 0 {

@@ -4,6 +4,9 @@ pub const FUNCTION: u32 = 1;
 pub const LITERAL: u32 = 2;
 pub const NEGATIVE: u32 = 1 << 15;
 
+/// Of a clause word.
+pub const RESTRICTED: u32 = 1 << 16;
+
 #[inline(always)]
 pub fn kind(word: u32) -> u32 {
     word >> 30

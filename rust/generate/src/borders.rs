@@ -122,7 +122,7 @@ fn long_fact(words: usize) -> Clause {
     let constant = Term::Application(Symbol { number: 1, arity: 0 }, Vec::new());
     let term = (3..words).fold(constant, |term, _| Term::Application(Symbol { number: 1, arity: 1 }, vec![term]));
     let predicate = Symbol { number: 1, arity: 1 };
-    Clause { variables: 0, literals: vec![Literal { negative: false, predicate, arguments: vec![term] }] }
+    Clause::open(0, vec![Literal { negative: false, predicate, arguments: vec![term] }])
 }
 
 fn asking_anything(mut clauses: Vec<Clause>) -> Table {

@@ -3,12 +3,16 @@
 use crate::random::Random;
 use engine::file::{TRAILER, fingerprint};
 
+/// Of a clause word.
+pub const RESTRICTED: u32 = 1 << 16;
+
 /// A damaged file. Mostly its trailer is mended afterwards, in part or as far as the clause words tell.
 pub fn damaged(random: &mut Random, file: &[u32]) -> Vec<u32> {
     let mut file = file.to_vec();
     match random.below(10) {
         0 | 1 => damage_trailer(random, &mut file),
         2 => ask_positively(random, &mut file),
+        3 if random.once_in(2) => restrict_question(random, &mut file),
         _ => damage_and_mend(random, &mut file),
     }
     file
@@ -34,6 +38,16 @@ fn ask_positively(random: &mut Random, file: &mut [u32]) {
     let question = file[body] as usize;
     let literals: Vec<usize> = (question..body).filter(|&place| file[place] >> 30 == 2).collect();
     file[random.pick(&literals)] ^= 1 << 15;
+    mend_fingerprint(file);
+}
+
+/// Marks the question as restricted, at times one that is wrong already.
+fn restrict_question(random: &mut Random, file: &mut [u32]) {
+    if random.once_in(4) {
+        ask_positively(random, file);
+    }
+    let question = file[file.len() - TRAILER] as usize;
+    file[question] |= RESTRICTED;
     mend_fingerprint(file);
 }
 
@@ -65,7 +79,7 @@ fn change_field(random: &mut Random, word: &mut u32) {
         0 => 0,
         1 => random.pick(&[0, 12]),
         2 => random.pick(&[0, 12, 15]),
-        _ => random.pick(&[0, 3, 8]),
+        _ => random.pick(&[0, 3, 8, 8, 16, 17]),
     };
     let one = 1 << field;
     *word = if random.once_in(2) { word.wrapping_add(one) } else { word.wrapping_sub(one) };
@@ -91,6 +105,8 @@ fn strange_word(random: &mut Random) -> u32 {
         0xC000_0189,
         0xC000_0000,
         0xC000_FF01,
+        0xC001_0101,
+        0xC002_0101,
         0xFFFF_FFFC,
     ]);
     if random.once_in(6) { random.word() } else { base + near }

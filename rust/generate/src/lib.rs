@@ -8,6 +8,7 @@ mod orders;
 pub mod pairs;
 pub mod proofs;
 pub mod random;
+pub mod restricted;
 pub mod tables;
 
 use damage::damaged;

@@ -1,6 +1,7 @@
 //! Requests as lines of the protocol.
 
 use crate::random::Random;
+use engine::Desk;
 
 /// How words are spelt: 1 to 8 digits of either case are permitted.
 #[derive(Clone, Copy)]
@@ -57,8 +58,12 @@ impl Search {
     }
 
     pub fn line(&self, spelling: Spelling) -> String {
+        self.line_for(Desk::Collections, spelling)
+    }
+
+    pub fn line_for(&self, desk: Desk, spelling: Spelling) -> String {
         let Search { bound, budget, work, proof, answer, file } = self;
-        format!("search {bound} {budget} {work} {proof} {answer} / {}", spelling.words(file))
+        format!("{}search {bound} {budget} {work} {proof} {answer} / {}", prefix(desk), spelling.words(file))
     }
 }
 
@@ -68,8 +73,20 @@ impl Check {
     }
 
     pub fn line(&self, spelling: Spelling) -> String {
+        self.line_for(Desk::Collections, spelling)
+    }
+
+    pub fn line_for(&self, desk: Desk, spelling: Spelling) -> String {
         let Check { bound, work, answer, offered, file } = self;
-        format!("check {bound} {work} {answer} / {} / {}", spelling.words(offered), spelling.words(file))
+        let [offered, file] = [offered, file].map(|words| spelling.words(words));
+        format!("{}check {bound} {work} {answer} / {offered} / {file}", prefix(desk))
+    }
+}
+
+fn prefix(desk: Desk) -> &'static str {
+    match desk {
+        Desk::Collections => "",
+        Desk::Education => "edu-",
     }
 }
 

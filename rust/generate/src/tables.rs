@@ -29,7 +29,25 @@ const FAMILIES: [(usize, Family); 14] = [
     (3, facts),
 ];
 
+/// Now and then some of the clauses are restricted.
 pub fn any(random: &mut Random) -> Asked {
+    let mut asked = unmarked(random);
+    if random.once_in(6) {
+        mark(random, &mut asked.table);
+    }
+    asked
+}
+
+/// Restricts some of the clauses before the question.
+pub fn mark(random: &mut Random, table: &mut Table) {
+    let question = table.question_number();
+    let share = random.pick(&[1, 2, 2, 3, 6]);
+    for clause in &mut table.clauses[..question] {
+        clause.restricted = random.once_in(share);
+    }
+}
+
+fn unmarked(random: &mut Random) -> Asked {
     let total = FAMILIES.iter().map(|(weight, _)| weight).sum();
     let mut rest = random.below(total);
     for (weight, family) in FAMILIES {
@@ -92,7 +110,7 @@ fn signed(random: &mut Random, atoms: &[Literal], signs: u32) -> Clause {
         literal.arguments = literal.arguments.iter().map(|term| loosened(random, term)).collect();
     }
     random.shuffle(&mut literals);
-    Clause { variables: 4, literals }
+    Clause::open(4, literals)
 }
 
 /// p(…) or p(…) or …, asking for any: one disjunct for each alternative.
@@ -111,7 +129,7 @@ pub fn alternatives(random: &mut Random) -> Asked {
     if random.once_in(3) {
         literals.push(vocabulary.literal(random, true, predicate.arity.max(1), None));
     }
-    clauses.push(Clause { variables: predicate.arity.max(1), literals });
+    clauses.push(Clause::open(predicate.arity.max(1), literals));
     Asked { table: Table { clauses }, bound: (count + random.below(3)) as u32 }
 }
 
@@ -129,20 +147,20 @@ fn season(random: &mut Random) -> Asked {
         let (day, house) = (name(random.between(3, 5)), name(random.between(6, 7)));
         let slots = random.pick(&[vec![&matinee], vec![&evening], vec![&matinee, &evening]]);
         let literals = slots.into_iter().map(|slot| at(false, day.clone(), house.clone(), slot.clone())).collect();
-        clauses.push(Clause { variables: 0, literals });
+        clauses.push(Clause::open(0, literals));
     }
     if random.once_in(2) {
         let (from, to) = (name(random.between(6, 7)), name(random.between(6, 8)));
         let rule =
             vec![at(true, Term::Variable(0), from, Term::Variable(1)), at(false, Term::Variable(0), to, evening)];
-        clauses.insert(random.below(clauses.len() + 1), Clause { variables: 2, literals: rule });
+        clauses.insert(random.below(clauses.len() + 1), Clause::open(2, rule));
     }
     let day = random.pick(&[name(3), name(4), Term::Variable(1)]);
     let mut asked = vec![at(true, day.clone(), name(6), Term::Variable(0))];
     if random.once_in(3) {
         asked.push(at(true, day, name(random.between(7, 8)), Term::Variable(2)));
     }
-    clauses.push(Clause { variables: 3, literals: asked });
+    clauses.push(Clause::open(3, asked));
     Asked { table: Table { clauses }, bound: random.between(1, 5) as u32 }
 }
 
@@ -176,9 +194,8 @@ fn deep(random: &mut Random) -> Asked {
     let vocabulary = Vocabulary::with_functions();
     let general = vocabulary.large_term(random, words, 4);
     let predicate = Symbol { number: 1, arity: 1 };
-    let fact = |negative, variables, term| Clause {
-        variables,
-        literals: vec![Literal { negative, predicate, arguments: vec![term] }],
+    let fact = |negative, variables, term| {
+        Clause::open(variables, vec![Literal { negative, predicate, arguments: vec![term] }])
     };
     let mut clauses: Vec<Clause> = (0..random.between(0, 2))
         .map(|_| {
@@ -213,9 +230,9 @@ fn extremes(random: &mut Random) -> Asked {
         Symbol { number: 4095, arity: 1 },
     ];
     let vocabulary = Vocabulary { predicates, functions };
-    let full = |negative: &mut dyn FnMut() -> bool, random: &mut Random| Clause {
-        variables: 16,
-        literals: (0..random.between(1, 7)).map(|_| vocabulary.literal(random, negative(), 16, None)).collect(),
+    let full = |negative: &mut dyn FnMut() -> bool, random: &mut Random| {
+        let literals = (0..random.between(1, 7)).map(|_| vocabulary.literal(random, negative(), 16, None)).collect();
+        Clause::open(16, literals)
     };
     let mut clauses = Vec::new();
     for _ in 0..random.between(1, 5) {
@@ -283,7 +300,7 @@ pub fn equations(random: &mut Random) -> Asked {
     let predicate = Symbol { number: 1, arity: 2 };
     let vocabulary = Vocabulary { predicates: vec![predicate], functions };
     let twice = vec![Term::Variable(0), Term::Variable(0)];
-    let same = Clause { variables: 1, literals: vec![Literal { negative: false, predicate, arguments: twice }] };
+    let same = Clause::open(1, vec![Literal { negative: false, predicate, arguments: twice }]);
     let variables = random.pick(&[3, 6, 10, 16]);
     let goals: Vec<Literal> = (0..random.between(2, 7))
         .map(|_| {
@@ -294,7 +311,7 @@ pub fn equations(random: &mut Random) -> Asked {
         })
         .collect();
     let bound = goals.len() as u32;
-    Asked { table: Table { clauses: vec![same, Clause { variables, literals: goals }] }, bound }
+    Asked { table: Table { clauses: vec![same, Clause::open(variables, goals)] }, bound }
 }
 
 /// Many clauses, few of them fitting.
@@ -404,7 +421,7 @@ impl Vocabulary {
     fn clause(&self, random: &mut Random, signs: &[bool], predicate: Option<Symbol>) -> Clause {
         let variables = random.pick(&[0, 1, 1, 2, 2, 3]);
         let literals = signs.iter().map(|&negative| self.literal(random, negative, variables, predicate)).collect();
-        Clause { variables, literals }
+        Clause::open(variables, literals)
     }
 
     fn literal(&self, random: &mut Random, negative: bool, variables: u32, predicate: Option<Symbol>) -> Literal {

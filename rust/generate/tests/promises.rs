@@ -1,11 +1,12 @@
 //! What the request promises of any two calls, on generated tables.
 
 use engine::file::write;
-use engine::owned::{check, search};
+use engine::owned::{check, check_for, search, search_for};
 use engine::syntax::Table;
-use engine::{LARGEST_BOUND, Status};
+use engine::{Desk, LARGEST_BOUND, Status};
 use generate::proofs::wandering;
 use generate::random::Random;
+use generate::restricted::hiding;
 use generate::tables::{Asked, any, small};
 
 const ALLOWED: u32 = 2_000;
@@ -115,6 +116,56 @@ fn with_more_clauses(random: &mut Random, table: &Table) -> (Table, Vec<u32>) {
 
 fn moved(step: u32, numbers: &[u32]) -> u32 {
     if step >> 30 == 1 { step & !511 | numbers[(step & 511) as usize] } else { step }
+}
+
+#[test]
+fn education_learns_nothing_from_restricted_clauses() {
+    for (mut random, Asked { table, bound }) in questions(6, 2_000) {
+        let seen = table.unrestricted();
+        let mut hide = || write(&hiding(&mut random, &seen));
+        let (one, other) = (hide(), hide());
+        let budget = random.below(ALLOWED as usize) as u32;
+        let found = search_for(Desk::Education, &one, bound, budget);
+        assert_eq!(found, search_for(Desk::Education, &other, bound, budget));
+        // It is as if the restricted clauses were not there, for both desks.
+        assert_eq!(found, search(&write(&seen), bound, budget));
+        let offered = wandering(&mut random, &seen, bound);
+        let checked = check_for(Desk::Education, &one, &offered, bound);
+        assert_eq!(checked, check_for(Desk::Education, &other, &offered, bound));
+        assert_eq!(checked, check(&write(&seen), &offered, bound));
+    }
+}
+
+#[test]
+fn with_its_numbers_moved_back_an_education_proof_is_accepted_by_collections() {
+    let mut moved_back = 0;
+    for (mut random, Asked { table, bound }) in questions(7, 2_000) {
+        let whole = hiding(&mut random, &table.unrestricted());
+        let found = search_for(Desk::Education, &write(&whole), bound, ALLOWED);
+        if found.report.status != Status::Proved {
+            continue;
+        }
+        let all = (0..).zip(&whole.clauses);
+        let numbers: Vec<u32> = all.filter(|(_, clause)| !clause.restricted).map(|(number, _)| number).collect();
+        let back: Vec<u32> = found.proof.iter().map(|&step| moved(step, &numbers)).collect();
+        let accepted = check(&write(&whole), &back, bound);
+        assert_eq!((accepted.report.status, accepted.answer), (Status::Proved, found.answer));
+        moved_back += usize::from(back != found.proof);
+    }
+    assert!(moved_back > 200);
+}
+
+#[test]
+fn the_pairs_of_files_differ_and_are_accepted() {
+    let lines: Vec<String> = generate::restricted::pairs(8, 500).collect();
+    let pairs: Vec<&[String]> = lines.chunks(2).collect();
+    let differing = pairs.iter().filter(|pair| pair[0] != pair[1]).count();
+    assert!(differing > 300, "{differing}");
+    for line in &lines {
+        let result = calls::respond(&mut calls::Plain, line.as_bytes()).expect("a result");
+        let status: u32 = result.split(' ').nth(1).and_then(|word| word.parse().ok()).expect("an outcome");
+        assert!(!(4..=9).contains(&status) && status != 21, "{result}");
+    }
 }
 
 #[test]

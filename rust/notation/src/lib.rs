@@ -1,6 +1,7 @@
 //! Tables written as text.
 //!
-//! A clause is a line `p(X,f(a)) | ~ q(X)`; the question is the last line, `? r(X), s(X)`. Variables begin upper-case.
+//! A clause is a line `p(X,f(a)) | ~ q(X)`; the question is the last line, `? r(X), s(X)`. Variables begin upper-case. A line that begins
+//! with `!` is a restricted clause.
 //! Predicates and functions are each numbered from 1, variables from 0 within a clause, by a name's first use.
 //! Empty lines and lines that begin with `%` are skipped.
 
@@ -85,6 +86,7 @@ pub fn file(text: &str) -> Result<Vec<u32>, String> {
 
 fn clause(line: &str, symbols: &mut Symbols) -> Result<Clause, String> {
     let mut parser = Parser { rest: line.chars().peekable(), symbols, variables: Names::default() };
+    let restricted = parser.eat('!');
     let question = parser.eat('?');
     let separator = if question { ',' } else { '|' };
     let mut literals = vec![parser.literal(question)?];
@@ -92,7 +94,7 @@ fn clause(line: &str, symbols: &mut Symbols) -> Result<Clause, String> {
         literals.push(parser.literal(question)?);
     }
     match parser.peek() {
-        None => Ok(Clause { variables: parser.variables.0.len() as u32, literals }),
+        None => Ok(Clause { restricted, variables: parser.variables.0.len() as u32, literals }),
         Some(left_over) => Err(format!("{left_over:?} in {line:?}")),
     }
 }

@@ -75,7 +75,7 @@ fn file(records: &[Record], day: u32, house: u32, asked: Asked) -> Vec<u32> {
         Asked::Evening => constant(EVENING),
         Asked::Any => Term::Variable(0),
     };
-    clauses.push(Clause { variables: 1, literals: vec![at(true, day, house, slot)] });
+    clauses.push(Clause::open(1, vec![at(true, day, house, slot)]));
     write(&Table { clauses })
 }
 
@@ -89,7 +89,7 @@ fn clause(record: &Record) -> Clause {
         _ => &[MATINEE, EVENING],
     };
     let literals = slots.iter().map(|&slot| at(false, record.day, record.house, constant(slot))).collect();
-    Clause { variables: 0, literals }
+    Clause::open(0, literals)
 }
 
 fn at(negative: bool, day: u32, house: u32, slot: Term) -> Literal {

@@ -88,7 +88,8 @@ impl<'a> Symbols<'a> {
             }));
         }
         let following = words.len() as u32 - 1;
-        words[0] = word::encode(Word::Clause { literals, variables: variables.len() as u32, following });
+        words[0] =
+            word::encode(Word::Clause { literals, variables: variables.len() as u32, following, restricted: false });
         (literals <= 7 && following <= 255).then_some(words)
     }
 }

@@ -25,7 +25,7 @@ fn table() -> Table {
     let nested = application(4095, vec![variable(15), application(0, vec![variable(3)]), application(4095, vec![])]);
     let gaps = vec![literal(true, 4095, vec![nested, variable(15)]), literal(false, 0, vec![])];
     let question = vec![literal(true, 1, vec![variable(1), variable(0)]), literal(true, 1, vec![])];
-    let clause = |variables, literals| Clause { variables, literals };
+    let clause = |variables, literals| Clause::open(variables, literals);
     Table { clauses: vec![clause(1, order), clause(16, gaps), clause(2, question)] }
 }
 
@@ -69,7 +69,7 @@ fn read_back_by_first_use() {
     let nested = application(2, vec![variable(0), application(3, vec![variable(1)]), application(2, vec![])]);
     let second = vec![literal(true, 2, vec![nested, variable(0)]), literal(false, 3, vec![])];
     let question = vec![literal(true, 0, vec![variable(0), variable(1)]), literal(true, 0, vec![])];
-    let clause = |variables, literals| Clause { variables, literals };
+    let clause = |variables, literals| Clause::open(variables, literals);
     let renumbered = write(&Table { clauses: vec![clause(1, first), clause(2, second), clause(2, question)] });
     assert_eq!(reread(&write(&table())), renumbered);
     assert_eq!(reread(&renumbered), renumbered);

@@ -98,7 +98,7 @@ fn longest_file() -> Workload {
         let constant = Term::Application(Symbol { number: 1, arity: 0 }, Vec::new());
         let term = (3..words).fold(constant, |term, _| Term::Application(Symbol { number: 1, arity: 1 }, vec![term]));
         let predicate = Symbol { number: 1, arity: 1 };
-        Clause { variables: 0, literals: vec![Literal { negative: false, predicate, arguments: vec![term] }] }
+        Clause::open(0, vec![Literal { negative: false, predicate, arguments: vec![term] }])
     };
     let mut clauses = vec![fact(256); 62];
     clauses.push(fact(16_000 - 62 * 256 - 7));

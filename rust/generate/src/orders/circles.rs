@@ -31,10 +31,8 @@ pub fn request(random: &mut Random, spelling: Spelling) -> String {
 /// same(Z,Z), asking same(left,right): the two terms are compared in one step, and share their variables.
 fn within_one_step(random: &mut Random) -> Check {
     let predicate = Symbol { number: 1, arity: 2 };
-    let one = |negative, variables, arguments| Clause {
-        variables,
-        literals: vec![Literal { negative, predicate, arguments }],
-    };
+    let one =
+        |negative, variables, arguments| Clause::open(variables, vec![Literal { negative, predicate, arguments }]);
     let (left, right) = pair(random, 3);
     let sides = if random.once_in(2) { vec![left, right] } else { vec![right, left] };
     let clauses = vec![one(false, 1, vec![Term::Variable(0); 2]), one(true, VARIABLES, sides)];

@@ -2,6 +2,7 @@
 
 mod circles;
 mod desk;
+mod education;
 mod listing;
 mod out;
 mod repeats;
@@ -18,6 +19,8 @@ type Kind = fn(&mut Random, Spelling) -> String;
 const KINDS: &[Kind] = &[
     circles::request,
     desk::request,
+    education::request,
+    education::request,
     listing::request,
     out::request,
     repeats::request,
@@ -35,6 +38,7 @@ pub fn borders() -> Vec<String> {
     [
         circles::borders(),
         desk::borders(),
+        education::borders(),
         listing::borders(),
         out::borders(),
         repeats::borders(),

@@ -66,13 +66,13 @@ fn fact(predicate: u32, function: u32, height: usize, constant: u32) -> Clause {
     let end = Term::Application(Symbol { number: constant, arity: 0 }, Vec::new());
     let tower = (0..height).fold(end, |term, _| Term::Application(Symbol { number: function, arity: 1 }, vec![term]));
     let predicate = Symbol { number: predicate, arity: 1 };
-    Clause { variables: 0, literals: vec![Literal { negative: false, predicate, arguments: vec![tower] }] }
+    Clause::open(0, vec![Literal { negative: false, predicate, arguments: vec![tower] }])
 }
 
 /// A table whose text has just so many bytes: five for each height of a fact, and one for each digit of its two numbers.
 fn of_length(bytes: usize) -> Table {
     let question = Literal { negative: true, predicate: Symbol { number: 1, arity: 0 }, arguments: Vec::new() };
-    let question = Clause { variables: 0, literals: vec![question] };
+    let question = Clause::open(0, vec![question]);
     let table = |height: usize, [predicate, constant]: [u32; 2]| {
         let mut clauses = vec![fact(1, 10, 250, 1); bytes / 1_280];
         clauses.extend([fact(predicate, 10, height, constant), question.clone()]);
@@ -112,5 +112,5 @@ fn longest_question() -> Clause {
         predicate: Symbol { number: 4_095, arity: 4 },
         arguments: (0..4).map(|next| Term::Variable((from * 4 + next) % 16)).collect(),
     };
-    Clause { variables: 16, literals: (0..7).map(literal).collect() }
+    Clause::open(16, (0..7).map(literal).collect())
 }

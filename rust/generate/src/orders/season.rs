@@ -2,7 +2,7 @@
 //! positive and restricted ones, bounds over 32, budgets of 0 and beside what is needed, files that get too long, 0, 4,096 and 4,097
 //! entries, words left over.
 
-use crate::damage::damaged;
+use crate::damage::{RESTRICTED, damaged, mend_all};
 use crate::lines::Spelling;
 use crate::random::Random;
 use crate::tables::{self, Asked};
@@ -12,7 +12,6 @@ use engine::file::{clause_words, write};
 use engine::owned;
 use engine::syntax::{Clause, Table};
 
-const RESTRICTED: u32 = 1 << 16;
 const ALLOWED: u32 = 300;
 
 struct Season {
@@ -148,6 +147,16 @@ pub fn borders() -> Vec<String> {
     }
     lines.push(Season { table: vec![], entries: vec![1], ..season(&[]) }.line(Spelling::Full));
     lines.push(Season { list: vec![], ..season(&[first]) }.line(Spelling::Full));
+    // A restricted question is refused in turn, a restricted clause answers; the table's own 21 comes before 23.
+    let marked = [indefinite[0] | RESTRICTED, indefinite[1], indefinite[2], indefinite[3]];
+    lines.push(Season { list: marked.to_vec(), ..season(&[first, first]) }.line(Spelling::Full));
+    for clause in [0, 7, 11] {
+        let mut table = table.clone();
+        table[clause] |= RESTRICTED;
+        mend_all(&mut table);
+        lines.push(Season { table: table.clone(), ..season(&[first, second]) }.line(Spelling::Full));
+        lines.push(Season { table, entries: vec![1], ..season(&[]) }.line(Spelling::Full));
+    }
     let alone = write(&tables::written("? at(e,X)"));
     lines.push(Season { table: alone, ..season(&[first, [0, 0, 2, 9]]) }.line(Spelling::Full));
     lines.push(too_long().line(Spelling::Short));

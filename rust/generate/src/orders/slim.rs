@@ -1,4 +1,4 @@
-//! Order 12: repeats, dead clauses, chains of them, tautologies, clauses with the question's words.
+//! Order 12: repeats, but for the mark too, dead clauses, chains of them, tautologies, clauses with the question's words.
 
 use super::room;
 use crate::damage::damaged;
@@ -37,7 +37,12 @@ pub fn request(random: &mut Random, spelling: Spelling) -> String {
 fn grow(random: &mut Random, table: &mut Table) {
     let question = table.question_number();
     let place = random.below(question + 1);
-    match random.below(5) {
+    match random.below(6) {
+        5 => {
+            let mut twin = table.clauses[random.below(question.max(1))].clone();
+            twin.restricted = !twin.restricted;
+            table.clauses.insert(place, twin);
+        }
         0 => table.clauses.insert(place, table.clauses[random.below(question + 1)].clone()),
         1 => table.clauses.insert(place, table.question().clone()),
         2 => table.clauses.insert(place, tautology(random, table)),
@@ -55,7 +60,7 @@ fn tautology(random: &mut Random, table: &Table) -> Clause {
     let number = random.pick(&[0, 1, 900]);
     let mut literals = vec![plain(false, number), plain(true, number)];
     literals.extend(table.clauses[random.below(table.clauses.len())].literals.first().cloned());
-    Clause { variables: 16, literals }
+    Clause::open(16, literals)
 }
 
 /// Clauses that lean on one another: the first or the last has no partner, or the ends meet.
@@ -64,7 +69,7 @@ fn chain(random: &mut Random, table: &mut Table, ring: bool) {
     let mut clauses: Vec<Clause> = (0..links)
         .map(|link| {
             let next = if ring { 1_000 + (link + 1) % links } else { 1_000 + link + 1 };
-            Clause { variables: 0, literals: vec![plain(false, 1_000 + link), plain(true, next)] }
+            Clause::open(0, vec![plain(false, 1_000 + link), plain(true, next)])
         })
         .collect();
     if random.once_in(3) {
@@ -81,10 +86,10 @@ pub fn borders() -> Vec<String> {
     let falling = |clauses: u32| {
         let mut table = Table {
             clauses: (0..clauses)
-                .map(|link| Clause { variables: 0, literals: vec![plain(false, link), plain(true, link + 1)] })
+                .map(|link| Clause::open(0, vec![plain(false, link), plain(true, link + 1)]))
                 .collect(),
         };
-        table.clauses.push(Clause { variables: 0, literals: vec![plain(true, 0)] });
+        table.clauses.push(Clause::open(0, vec![plain(true, 0)]));
         write(&table)
     };
     let (short, long) = (falling(3), falling(511));

@@ -21,4 +21,7 @@ judge-read-spec =
     (λ c κs. search all)
     (λ c κs. search all)
     (λ c. search all)
+    (λ c κs. search all)
+    (λ c κs. search all)
+    (λ c. search all)
     (λ c. search all))

@@ -1,0 +1,3 @@
+pub mod Education
+pub mod Promises
+pub mod EducationCases
