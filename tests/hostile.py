@@ -5,6 +5,7 @@ from lib.kept import keep
 from lib.questions import Clause, extension, file_of, tower
 
 FULL = 4294967295
+RESTART = 0x80000000
 P, Q, R = 1, 2, 3  # predicates
 F, G, S, PAIR, CONS, NIL, ZERO, A, B = range(1, 10)  # functions
 REQUESTS = []
@@ -15,11 +16,12 @@ def hexes(words):
 
 
 def search(title, clauses, bound=32, budget=FULL, answer=4096, verb="search"):
-    REQUESTS.append(f"# {title}\n{verb} {bound} {budget} 16384 199 {answer} / {hexes(file_of(clauses))}")
+    proof = 231 if verb.startswith("restart") else 199
+    REQUESTS.append(f"# {title}\n{verb} {bound} {budget} 16384 {proof} {answer} / {hexes(file_of(clauses))}")
 
 
-def check(title, clauses, steps, bound=32, answer=4096):
-    REQUESTS.append(f"# {title}: checked\ncheck {bound} 16384 {answer} / {hexes(steps)} / {hexes(file_of(clauses))}")
+def check(title, clauses, steps, bound=32, answer=4096, verb="check"):
+    REQUESTS.append(f"# {title}: checked\n{verb} {bound} 16384 {answer} / {hexes(steps)} / {hexes(file_of(clauses))}")
 
 
 def both(title, clauses, steps, **limits):
@@ -254,6 +256,28 @@ def repeats():
     copies("all equal, in a word fewer", one, one, answer=22)
 
 
-for family in (within, two_within, across, compared, crowds, deep, branches, many, hidden, repeats):
+# Rules read one way (order 11): a positive leaf is restarted. No closed proof has more than 224 steps, since each of seven goals has to be extended.
+def restarts():
+    positive = lambda *names: Clause(*[("+", Q, (name,)) for name in names])
+    table = [positive(10, 11, 12, 13, 14, 15, 16), positive(10, 10, 10, 10, 10, 10, 11), positive(*[10] * 7), Clause(*[("~", Q, "X")] * 7)]
+    restarted = [RESTART, *[1] * 7]
+    steps = [*[extension(0), *restarted * 6] * 4, extension(1), *[1] * 5, *restarted, *[extension(2), *[1] * 6] * 2]
+    assert len(steps) == 224
+    check("the longest proof with restarts", table, steps, verb="restart-check")
+    search("the longest proof with restarts, found", table, verb="restart-search")
+    far = [Clause(("+", P, "X"), ("+", P, (F, "X", "X"))), Clause(("~", P, (A,)))]
+    search("long branches of restarts with reductions that fail", far, budget=20000, verb="restart-search")
+    search("long branches of restarts, bounded", far, bound=16, verb="restart-search")
+    for count in (1, 15):
+        same, last, free = grown(count, (A,), (A,)), grown(count, (A,), (B,)), grown(count, "X0", (A,))
+        for title, first, other in (("all equal", same, same), ("one unequal in the last place", same, last), ("all apart by a variable's name", free, free)):
+            ask = Clause(("~", P, (A,)), ("~", P, (A,)), ("~", Q, "T", "T"))
+            six = [RESTART, 1, 1, extension(1)] * 6
+            steps = [extension(0), *six, extension(0), *six[:-1], extension(2), extension(1)]
+            clauses = [Clause(*[("+", P, (A,))] * 7), first, other, ask]
+            check(f"13 copies of the question by restarts, {count} times fourfold, {title}", clauses, steps, verb="restart-check")
+
+
+for family in (within, two_within, across, compared, crowds, deep, branches, many, hidden, repeats, restarts):
     family()
 keep({"tests/hostile.txt": "\n".join(REQUESTS) + "\n"})

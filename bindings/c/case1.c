@@ -57,6 +57,25 @@ int main(void)
                       && taught.tries == 3 && same(proof, steps, 2) && same(answer, words, 6) && past.status == HUKOLEARU_STEP_NOT_ALLOWED
                       && past.place == 0);
 
+    static const uint32_t one_way[3] = {0x40000000, 0x80000000, 0x00000001};
+    static uint32_t longer[231];
+    struct hukolearu_outcome restarted = hukolearu_restart_search(file, 15, 2, 4, longer, 231, answer, 64, work, 16384);
+    int in_order = same(longer, one_way, 3) && same(answer, words, 6);
+    struct hukolearu_outcome again = hukolearu_restart_check(file, 15, 2, one_way, 3, answer, 64, work, 16384);
+    struct hukolearu_outcome no_step = hukolearu_check_proof(file, 15, 2, one_way, 3, answer, 64, work, 16384);
+    struct hukolearu_outcome short_of_room = hukolearu_restart_search(file, 15, 2, 4, longer, 230, answer, 64, work, 16384);
+    wrong |= says("rules read one way: the positive leaf is restarted, 4 tries; for the base that is no step",
+                  restarted.status == HUKOLEARU_FOUND && restarted.proof == 3 && restarted.disjuncts == 2 && restarted.tries == 4 && in_order
+                      && again.status == HUKOLEARU_FOUND && again.proof == 3 && no_step.status == HUKOLEARU_MALFORMED_STEP && no_step.place == 1
+                      && short_of_room.status == HUKOLEARU_PROOF_TOO_SHORT);
+
+    struct hukolearu_outcome desk_found = hukolearu_restart_education_search(file, 15, 2, 4, longer, 231, answer, 64, work, 16384);
+    struct hukolearu_outcome desk_none = hukolearu_restart_education_search(marked, 15, 2, 4, longer, 231, answer, 64, work, 16384);
+    struct hukolearu_outcome desk_again = hukolearu_restart_education_check(file, 15, 2, one_way, 3, answer, 64, work, 16384);
+    wrong |= says("rules read one way, for education",
+                  desk_found.status == HUKOLEARU_FOUND && desk_found.tries == 4 && desk_none.status == HUKOLEARU_NONE
+                      && desk_again.status == HUKOLEARU_FOUND && desk_again.disjuncts == 2);
+
     static uint32_t slimmer[15], numbers[2];
     struct hukolearu_slimmed slim = hukolearu_slim(file, 15, slimmer, 15, numbers, 2);
     wrong |= says("slimmer file: nothing drops, and the file comes back word for word",

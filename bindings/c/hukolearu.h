@@ -48,12 +48,14 @@ enum hukolearu_status {
     HUKOLEARU_OVER_A_LIMIT = 19,
     HUKOLEARU_CIRCLE = 20,
     HUKOLEARU_RESTRICTED_QUESTION = 21,
+    HUKOLEARU_NO_CONCLUSION = 22,
     HUKOLEARU_ENTRIES = 23,
     HUKOLEARU_OUT_OF_RANGE = 24
 };
 
 #define HUKOLEARU_WORK_WORDS 16384
 #define HUKOLEARU_PROOF_WORDS 199
+#define HUKOLEARU_RESTART_PROOF_WORDS 231
 
 /* The calls have the names that they have in Rattle and in Rust, with a prefix, and the same arguments in the same order. */
 struct hukolearu_outcome hukolearu_search(const uint32_t *file, size_t file_words, uint32_t bound, uint32_t budget,
@@ -74,6 +76,26 @@ struct hukolearu_outcome hukolearu_education_search(const uint32_t *file, size_t
 struct hukolearu_outcome hukolearu_education_check(const uint32_t *file, size_t file_words, uint32_t bound,
                                                    const uint32_t *offered, size_t offered_words,
                                                    uint32_t *answer, size_t answer_words, uint32_t *work, size_t work_words);
+
+/* Order 11: rules read one way, for both desks. Clauses are entered by their positive literals alone; a positive leaf is reduced, or restarted: a
+ * fresh copy of the question hangs under it (step 80000000, which counts as an extension and is tried after the reductions). A search wants 231
+ * words for its proof; 22, after 21, is the first clause other than the question without a positive literal, its place the clause word, in the whole
+ * file for both desks. Everything else as for the four calls above. */
+struct hukolearu_outcome hukolearu_restart_search(const uint32_t *file, size_t file_words, uint32_t bound, uint32_t budget,
+                                                  uint32_t *proof, size_t proof_words, uint32_t *answer, size_t answer_words,
+                                                  uint32_t *work, size_t work_words);
+
+struct hukolearu_outcome hukolearu_restart_check(const uint32_t *file, size_t file_words, uint32_t bound,
+                                                 const uint32_t *offered, size_t offered_words,
+                                                 uint32_t *answer, size_t answer_words, uint32_t *work, size_t work_words);
+
+struct hukolearu_outcome hukolearu_restart_education_search(const uint32_t *file, size_t file_words, uint32_t bound, uint32_t budget,
+                                                            uint32_t *proof, size_t proof_words, uint32_t *answer, size_t answer_words,
+                                                            uint32_t *work, size_t work_words);
+
+struct hukolearu_outcome hukolearu_restart_education_check(const uint32_t *file, size_t file_words, uint32_t bound,
+                                                           const uint32_t *offered, size_t offered_words,
+                                                           uint32_t *answer, size_t answer_words, uint32_t *work, size_t work_words);
 
 /* Order 12: a slimmer file without repeats and dead clauses, and the old number of each clause that it keeps. A refusal (4 to 9, 21, or 16
  * where either buffer is too short) leaves both buffers unchanged; on 0 later words are unchanged. */

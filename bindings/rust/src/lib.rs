@@ -76,6 +76,7 @@ pub struct Season {
 
 pub const WORK_WORDS: usize = 16_384;
 pub const PROOF_WORDS: usize = 199;
+pub const RESTART_PROOF_WORDS: usize = 231;
 
 mod archive {
     use super::{Desk, Least, Outcome, Season, Slimmed, TextRead, TextWritten};
@@ -97,6 +98,26 @@ mod archive {
         ) -> Outcome;
         #[allow(clippy::too_many_arguments)]
         pub fn hukolearu_education_check(
+            file: *const u32, file_words: usize, bound: u32, offered: *const u32, offered_words: usize,
+            answer: *mut u32, answer_words: usize, work: *mut u32, work_words: usize,
+        ) -> Outcome;
+        #[allow(clippy::too_many_arguments)]
+        pub fn hukolearu_restart_search(
+            file: *const u32, file_words: usize, bound: u32, budget: u32, proof: *mut u32, proof_words: usize,
+            answer: *mut u32, answer_words: usize, work: *mut u32, work_words: usize,
+        ) -> Outcome;
+        #[allow(clippy::too_many_arguments)]
+        pub fn hukolearu_restart_check(
+            file: *const u32, file_words: usize, bound: u32, offered: *const u32, offered_words: usize,
+            answer: *mut u32, answer_words: usize, work: *mut u32, work_words: usize,
+        ) -> Outcome;
+        #[allow(clippy::too_many_arguments)]
+        pub fn hukolearu_restart_education_search(
+            file: *const u32, file_words: usize, bound: u32, budget: u32, proof: *mut u32, proof_words: usize,
+            answer: *mut u32, answer_words: usize, work: *mut u32, work_words: usize,
+        ) -> Outcome;
+        #[allow(clippy::too_many_arguments)]
+        pub fn hukolearu_restart_education_check(
             file: *const u32, file_words: usize, bound: u32, offered: *const u32, offered_words: usize,
             answer: *mut u32, answer_words: usize, work: *mut u32, work_words: usize,
         ) -> Outcome;
@@ -164,6 +185,53 @@ pub fn education_check(file: &[u32], bound: u32, offered: &[u32], answer: &mut [
     // SAFETY: as for `search`.
     unsafe {
         archive::hukolearu_education_check(
+            file.as_ptr(), file.len(), bound, offered.as_ptr(), offered.len(),
+            answer.as_mut_ptr(), answer.len(), work.as_mut_ptr(), work.len(),
+        )
+    }
+}
+
+/// The search of rules read one way: clauses are entered by positive literals alone, and a positive leaf may be restarted. It wants
+/// `RESTART_PROOF_WORDS` for its proof.
+pub fn restart_search(file: &[u32], bound: u32, budget: u32, proof: &mut [u32], answer: &mut [u32], work: &mut [u32]) -> Outcome {
+    // SAFETY: as for `search`.
+    unsafe {
+        archive::hukolearu_restart_search(
+            file.as_ptr(), file.len(), bound, budget, proof.as_mut_ptr(), proof.len(),
+            answer.as_mut_ptr(), answer.len(), work.as_mut_ptr(), work.len(),
+        )
+    }
+}
+
+/// The checker of rules read one way; 80000000 is a restart.
+pub fn restart_check(file: &[u32], bound: u32, offered: &[u32], answer: &mut [u32], work: &mut [u32]) -> Outcome {
+    // SAFETY: as for `search`.
+    unsafe {
+        archive::hukolearu_restart_check(
+            file.as_ptr(), file.len(), bound, offered.as_ptr(), offered.len(),
+            answer.as_mut_ptr(), answer.len(), work.as_mut_ptr(), work.len(),
+        )
+    }
+}
+
+/// Education's search of rules read one way.
+pub fn restart_education_search(
+    file: &[u32], bound: u32, budget: u32, proof: &mut [u32], answer: &mut [u32], work: &mut [u32],
+) -> Outcome {
+    // SAFETY: as for `search`.
+    unsafe {
+        archive::hukolearu_restart_education_search(
+            file.as_ptr(), file.len(), bound, budget, proof.as_mut_ptr(), proof.len(),
+            answer.as_mut_ptr(), answer.len(), work.as_mut_ptr(), work.len(),
+        )
+    }
+}
+
+/// Education's checker of rules read one way.
+pub fn restart_education_check(file: &[u32], bound: u32, offered: &[u32], answer: &mut [u32], work: &mut [u32]) -> Outcome {
+    // SAFETY: as for `search`.
+    unsafe {
+        archive::hukolearu_restart_education_check(
             file.as_ptr(), file.len(), bound, offered.as_ptr(), offered.len(),
             answer.as_mut_ptr(), answer.len(), work.as_mut_ptr(), work.len(),
         )
@@ -297,6 +365,35 @@ mod tests {
         assert_eq!(search(&file, 1, 1, &mut proof, &mut answer, &mut work).status, 21);
         assert_eq!(education_search(&file, 1, 1, &mut proof, &mut answer, &mut work).status, 21);
         assert_eq!(education_check(&file, 1, &[], &mut answer, &mut work).status, 21);
+    }
+
+    #[test]
+    fn rules_read_one_way_restart_a_positive_leaf() {
+        let (mut proof, mut answer, mut work) = ([9; RESTART_PROOF_WORDS], [9; 6], vec![9; WORK_WORDS]);
+        let found = Outcome { status: 0, place: 0, proof: 3, disjuncts: 2, answer: 6, tries: 4 };
+        let steps = [0x40000000, 0x80000000, 0x00000001];
+        for desk in [restart_search, restart_education_search] {
+            assert_eq!(desk(&CASE_1, 2, 4, &mut proof, &mut answer, &mut work), found);
+            assert_eq!((&proof[..3], proof[3]), (&steps[..], 9));
+            assert_eq!(answer, [0x80002001, 0x40000001, 0x40000002, 0x80002001, 0x40000001, 0x40000003]);
+            assert_eq!(desk(&CASE_1, 2, 3, &mut proof, &mut answer, &mut work).status, 11);
+            assert_eq!(desk(&CASE_1, 2, 4, &mut proof[1..], &mut answer, &mut work).status, 2);
+        }
+        for desk in [restart_check, restart_education_check] {
+            assert_eq!(desk(&CASE_1, 2, &steps, &mut answer, &mut work), Outcome { tries: 0, ..found });
+            // a restart past the bound, of a negative leaf; an extension of a positive one
+            assert_eq!(desk(&CASE_1, 1, &steps, &mut answer, &mut work).status, 13);
+            assert_eq!(desk(&CASE_1, 2, &steps[1..], &mut answer, &mut work).status, 13);
+            assert_eq!(desk(&CASE_1, 2, &[0x40000000, 0x40000001], &mut answer, &mut work).status, 13);
+        }
+        // for the base it is no step
+        assert_eq!(check_proof(&CASE_1, 2, &steps, &mut answer, &mut work).status, 12);
+        // p; not p; ask p: the second clause has no positive literal
+        let mut file = vec![0xC0000101, 0x80000001, 0xC0000101, 0x80008001, 0xC0000101, 0x80008001];
+        file.extend([4, 3, fingerprint(&file), 6]);
+        let refused = restart_search(&file, 1, 9, &mut proof, &mut answer, &mut work);
+        assert_eq!(refused, Outcome { status: 22, place: 2, proof: 0, disjuncts: 0, answer: 0, tries: 0 });
+        assert_eq!(search(&file, 1, 9, &mut proof, &mut answer, &mut work).status, 0);
     }
 
     #[test]

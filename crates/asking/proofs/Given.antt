@@ -121,13 +121,13 @@ refused-short (refusal status place tries n) = record { steps = omega arith; wor
 none-short : {status place tries : ℕ} → Short (Calls.refused status place tries)
 none-short = record { steps = omega arith; words = omega arith; disjuncts = omega arith }
 
-says-short : {S : Setting} {budget : ℕ} {g : Given} → Within (S .table) → S .bound ≤ 32 → SearchSays S budget 4096 g → Short g
+says-short : {t : Table} {bound budget : ℕ} {g : Given} → Within t → bound ≤ 32 → SearchSays (base t bound) budget 4096 g → Short g
 says-short w b (ran-out d l) = none-short
 says-short w b (none-found d l) = none-short
-says-short {S} w b (found-fitting {steps} d l c a r) = record {
-  steps = rw (length-map steps stepWord) (proof-is-short S w b steps c);
+says-short {t} {bound} w b (found-fitting {steps} d l c a r) = record {
+  steps = omega (arith, length-map steps stepWord, proof-is-short (base t bound) w b steps c);
   words = r;
-  disjuncts = omega (arith, few-disjuncts (question-within (S .table) w .some) a);
+  disjuncts = omega (arith, few-disjuncts (question-within t w .some) a);
 }
 says-short w b (found-too-long d l c a r) = none-short
 

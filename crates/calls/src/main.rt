@@ -72,12 +72,16 @@ enum Run {
     Search,
     Smallest,
     Education,
+    Restart,
+    RestartEducation,
 }
 
-// Who has a proof checked.
+// Who has a proof checked, and by which rules.
 enum Asker {
     Collections,
     Education,
+    Restart,
+    RestartEducation,
 }
 
 fn search(
@@ -101,6 +105,30 @@ fn search_seen(
     work: &mut [u32],
 ) {
     let o = education::search(file, bound, budget, proof, answer, work);
+    report(o, wide(o.proof), proof, answer, work);
+}
+
+fn search_restarting(
+    file: &[u32],
+    bound: u32,
+    budget: u32,
+    proof: &mut [u32],
+    answer: &mut [u32],
+    work: &mut [u32],
+) {
+    let o = restart::calls::search(file, bound, budget, proof, answer, work);
+    report(o, wide(o.proof), proof, answer, work);
+}
+
+fn search_seen_restarting(
+    file: &[u32],
+    bound: u32,
+    budget: u32,
+    proof: &mut [u32],
+    answer: &mut [u32],
+    work: &mut [u32],
+) {
+    let o = restart::calls::education_search(file, bound, budget, proof, answer, work);
     report(o, wide(o.proof), proof, answer, work);
 }
 
@@ -132,6 +160,10 @@ fn find(
         Run::Search => search(file, bound, budget, proof, answer, work),
         Run::Smallest => find_smallest(file, bound, budget, proof, answer, work),
         Run::Education => search_seen(file, bound, budget, proof, answer, work),
+        Run::Restart => search_restarting(file, bound, budget, proof, answer, work),
+        Run::RestartEducation => {
+            search_seen_restarting(file, bound, budget, proof, answer, work)
+        }
     }
 }
 
@@ -146,6 +178,10 @@ fn checked(
     match asker {
         Asker::Collections => calls::check_proof(file, bound, offered, answer, work),
         Asker::Education => education::check_proof(file, bound, offered, answer, work),
+        Asker::Restart => restart::calls::check_proof(file, bound, offered, answer, work),
+        Asker::RestartEducation => {
+            restart::calls::education_check(file, bound, offered, answer, work)
+        }
     }
 }
 
@@ -514,6 +550,14 @@ fn answer_searches(line: &[u8], values: &mut [usize]) -> bool {
         answer_search(Run::Education, line, values);
         return true;
     }
+    if asks_search(line, b"restart-search", values) {
+        answer_search(Run::Restart, line, values);
+        return true;
+    }
+    if asks_search(line, b"restart-edu-search", values) {
+        answer_search(Run::RestartEducation, line, values);
+        return true;
+    }
     false
 }
 
@@ -535,6 +579,14 @@ fn answer_checks(line: &[u8], values: &mut [usize]) -> bool {
     }
     if asks_check(line, b"edu-check", values) {
         answer_check(Asker::Education, line, values);
+        return true;
+    }
+    if asks_check(line, b"restart-check", values) {
+        answer_check(Asker::Restart, line, values);
+        return true;
+    }
+    if asks_check(line, b"restart-edu-check", values) {
+        answer_check(Asker::RestartEducation, line, values);
         return true;
     }
     false

@@ -10,6 +10,7 @@ use borrow.Author.Tests.{eq-eqb, eqb-true}
 use mir.Syntax.{w32}
 use mir.Val.{Fits}
 use Prim.Native.Nat.{ℕ, _≤_}
+use Rattle.rules.specs.Setting.{Profile, everyLeaf}
 use Rattle.rules.proofs.Unify.Tests.{decide}
 use Rattle.table.specs.Build.{atFront}
 use Rattle.table.specs.File.{judge, tableIn}
@@ -20,10 +21,11 @@ use Rattle.table.proofs.Desks.{seen-within}
 use Rattle.table.proofs.FileEncoding.{file-accepted, file-within, file-decoded}
 use Rattle.slim.proofs.Telling.{file-long}
 use Rattle.hukolearu.specs.Door.{Fault, firstFault, checks, behind, Admitted}
-use Rattle.hukolearu.specs.Calls.{Given, refusedBy, SearchAsked, searchInputs, searchCall, CheckAsked, checkInputs, checkCall}
+use Rattle.hukolearu.specs.Calls.{Given, refusedBy, SearchAsked, inputsBy, searchBy, searchCall, CheckAsked, checkInputs, checkBy, checkCall}
 use Rattle.hukolearu.specs.declared.door.Inputs.{Inputs}
+use Rattle.hukolearu.proofs.CallsTold as CallsTold
 use Rattle.hukolearu.proofs.DoorLaws.{passed}
-use Rattle.education.specs.Education.{educationSearch, educationCheck}
+use Rattle.education.specs.Education.{educationBy, educationSearch, educationCheckBy, educationCheck}
 use Rattle.seen.specs.Copying.{seenIn, seenFile, seenPart}
 use Rattle.education.specs.Promises.{withFile, checkWithFile, HoldsTheSeen, SearchAsIfAlone, CheckAsIfAlone}
 
@@ -37,22 +39,39 @@ refused-alike file i n g h = go (firstFault (checks file i)) refl
     go none e = absurd (n (passed file i e))
     go (some fault) e = refl
 
-pub search-refused : (a : SearchAsked) → (judge (a .file) .status ≡ 0 → ⊥) → educationSearch a ≡ searchCall a
-unfolding educationSearch searchCall
-search-refused a n = refused-alike (a .file) (searchInputs a) (λ ok. n (ok .good-file)) _ _
+module _ (rules : Profile) where
+  pub search-refused : (a : SearchAsked) → (judge (a .file) .status ≡ 0 → ⊥) → educationBy rules a ≡ searchBy rules a
+  unfolding educationBy searchBy
+  search-refused a n = refused-alike (a .file) (inputsBy rules a) (λ ok. n (ok .good-file)) _ _
 
-pub check-refused : (a : CheckAsked) → (judge (a .file) .status ≡ 0 → ⊥) → educationCheck a ≡ checkCall a
-unfolding educationCheck checkCall
-check-refused a n = refused-alike (a .file) (checkInputs a) (λ ok. n (ok .good-file)) _ _
+  pub check-refused : (a : CheckAsked) → (judge (a .file) .status ≡ 0 → ⊥) → educationCheckBy rules a ≡ checkBy rules a
+  unfolding educationCheckBy checkBy
+  check-refused a n = refused-alike (a .file) (checkInputs a) (λ ok. n (ok .good-file)) _ _
 
--- an accepted file, and one that holds what is seen of it
+  -- an accepted file, and one that holds what is seen of it
+  pub search-alone-by : (a : SearchAsked) (seen : List ℕ) → judge (a .file) .status ≡ 0 → HoldsTheSeen (a .file) seen → educationBy rules a ≡ searchBy rules (withFile a seen)
+  unfolding educationBy searchBy
+  search-alone-by a seen z h = rw (h .table, eq-eqb (judge (a .file) .status) 0 z, eq-eqb (judge seen .status) 0 (h .accepted))
+
+  pub check-alone-by : (a : CheckAsked) (seen : List ℕ) → judge (a .file) .status ≡ 0 → HoldsTheSeen (a .file) seen
+      → educationCheckBy rules a ≡ checkBy rules (checkWithFile a seen)
+  unfolding educationCheckBy checkBy
+  check-alone-by a seen z h = rw (h .table, eq-eqb (judge (a .file) .status) 0 z, eq-eqb (judge seen .status) 0 (h .accepted))
+
+-- by document 01's
+pub base-search : (a : SearchAsked) → educationBy everyLeaf a ≡ educationSearch a
+unfolding educationBy educationSearch
+base-search a = refl
+
+pub base-check : (a : CheckAsked) → educationCheckBy everyLeaf a ≡ educationCheck a
+unfolding educationCheckBy educationCheck
+base-check a = refl
+
 pub search-alone : SearchAsIfAlone
-unfolding educationSearch searchCall
-search-alone a seen z h = rw (h .table, eq-eqb (judge (a .file) .status) 0 z, eq-eqb (judge seen .status) 0 (h .accepted))
+search-alone a seen z h = sym (base-search a) ∙ search-alone-by everyLeaf a seen z h ∙ CallsTold.base-search (withFile a seen)
 
 pub check-alone : CheckAsIfAlone
-unfolding educationCheck checkCall
-check-alone a seen z h = rw (h .table, eq-eqb (judge (a .file) .status) 0 z, eq-eqb (judge seen .status) 0 (h .accepted))
+check-alone a seen z h = sym (base-check a) ∙ check-alone-by everyLeaf a seen z h ∙ CallsTold.base-check (checkWithFile a seen)
 
 pub seen-holds : (file : List ℕ) → Words file → judge file .status ≡ 0 → HoldsTheSeen file (seenFile file)
 seen-holds file small z =
@@ -104,8 +123,8 @@ module _ (file : List ℕ) (small : (i : ℕ) → Fits w32 (getD file i 0)) {wor
     copy-holds : HoldsTheSeen file (take words copy)
     copy-holds = rw (copy-there file w n before c) (seen-holds file file-words (copy-accepted file w n))
 
-    pub search-copy : (a : SearchAsked) → a .file ≡ file → educationSearch a ≡ searchCall (withFile a (take words copy))
-    search-copy a e = search-alone a (take words copy) (rw e (copy-accepted file w n)) (rw e copy-holds)
+    pub search-copy : (rules : Profile) (a : SearchAsked) → a .file ≡ file → educationBy rules a ≡ searchBy rules (withFile a (take words copy))
+    search-copy rules a e = search-alone-by rules a (take words copy) (rw e (copy-accepted file w n)) (rw e copy-holds)
 
-    pub check-copy : (a : CheckAsked) → a .file ≡ file → educationCheck a ≡ checkCall (checkWithFile a (take words copy))
-    check-copy a e = check-alone a (take words copy) (rw e (copy-accepted file w n)) (rw e copy-holds)
+    pub check-copy : (rules : Profile) (a : CheckAsked) → a .file ≡ file → educationCheckBy rules a ≡ checkBy rules (checkWithFile a (take words copy))
+    check-copy rules a e = check-alone-by rules a (take words copy) (rw e (copy-accepted file w n)) (rw e copy-holds)

@@ -5,10 +5,10 @@ use mathlib.Core.List.{map}
 use lib.ListN.{length}
 use Rattle.words.specs.Steps.{stepOf}
 use Rattle.seen.specs.Copying.{seenIn}
-use Rattle.rules.specs.Setting.{Setting, base}
+use Rattle.rules.specs.Setting.{Profile, readSteps, Setting, over, base}
 use Rattle.rules.specs.Machinery.Play.{check, searchFor}
 use Rattle.hukolearu.specs.Door.{firstFault, checks, behind}
-use Rattle.hukolearu.specs.Calls.{Given, searchGiven, checkGiven, refusedBy, SearchAsked, searchInputs, CheckAsked, checkInputs}
+use Rattle.hukolearu.specs.Calls.{Given, searchGiven, checkGiven, refusedBy, SearchAsked, inputsBy, searchInputs, CheckAsked, checkInputs}
 
 abbrev pub searchSeen : SearchAsked → Setting
 searchSeen a = base (seenIn (a .file)) (a .bound)
@@ -25,3 +25,15 @@ unfoldable pub educationCheck : CheckAsked → Given
 educationCheck a =
     behind (firstFault (checks (a .file) (checkInputs a))) refusedBy
     (checkGiven (seenIn (a .file)) (length (a .offered)) (a .answerRoom) (check (checkSeen a) (map stepOf (a .offered))))
+
+-- by any profile's rules
+unfoldable pub educationBy : Profile → SearchAsked → Given
+educationBy rules a =
+    let S : Setting = over rules (seenIn (a .file)) (a .bound) in
+    behind (firstFault (checks (a .file) (inputsBy rules a))) refusedBy (searchGiven S (a .answerRoom) (searchFor S (a .budget)))
+
+unfoldable pub educationCheckBy : Profile → CheckAsked → Given
+educationCheckBy rules a =
+    behind (firstFault (checks (a .file) (checkInputs a))) refusedBy
+    (checkGiven (seenIn (a .file)) (length (a .offered)) (a .answerRoom)
+    (check (over rules (seenIn (a .file)) (a .bound)) (readSteps rules (a .offered))))

@@ -53,7 +53,7 @@ later-none m place =
       notes = λ i l h. refl;
     }
 
-term-stays : (f m m′ : List ℕ) (r : ℕ) → startAt m′ (r / 256) ≡ startAt m (r / 256) → termOf f m′ r ≡ termOf f m r
+pub term-stays : (f m m′ : List ℕ) (r : ℕ) → startAt m′ (r / 256) ≡ startAt m (r / 256) → termOf f m′ r ≡ termOf f m r
 unfolding termOf wordsAt
 term-stays f m m′ r e = rw e
 
@@ -181,10 +181,10 @@ module _ {f m m₂ m₃ : List ℕ} {place : Place} (ready : Ready f m place) (l
   good : Good f m
   good = ready .good
 
-  few : place .leaves ≤ 199
+  few : place .leaves ≤ 231
   few = omega (arith, ready .room, good .copies)
 
-  few-steps : place .steps ≤ 199
+  few-steps : place .steps ≤ 231
   few-steps = omega (arith, few, ready .taken)
 
   counted : countOf m₃ ≡ countOf m

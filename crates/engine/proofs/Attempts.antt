@@ -94,7 +94,7 @@ module _ {f m m₁ : List ℕ} {task : Task} {place : Place} (treats : Treats f 
     attempt-falls = onward .falls
 
     module _ {m₂ : List ℕ} {left : ℕ} {r : Searched} (treated : Treated f m₁ m₂ task (taken .place) left r) where
-      few-steps : place .steps ≤ 199
+      few-steps : place .steps ≤ 231
       few-steps = omega (arith, treats .ready .taken, treats .ready .room, treats .ready .good .copies)
 
       abbrev below : ℕ → Play → Result Step
@@ -147,7 +147,7 @@ module _ {f m m₁ : List ℕ} {task : Task} {place : Place} (treats : Treats f 
           left-so : (e : Ending) → (e ≡ Nothing → ⊥) → Leaves e f m₁ m₂ (taken .place) r → Leaves e f m m₂ place r
           left-so Found s l =
               let n = onward .steps in
-              record { good = l .good; few = l .few; earlier = λ i h. l .earlier i (omega arith) ∙ takes .later .steps i h; marks = λ v h. l .marks v h ∙ takes .later .marks v h }
+              record { good = l .good; earlier = λ i h. l .earlier i (omega arith) ∙ takes .later .steps i h; marks = λ v h. l .marks v h ∙ takes .later .marks v h }
           left-so Nothing s l = absurd (s refl)
           left-so Out s l = tt
 

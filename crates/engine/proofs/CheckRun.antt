@@ -6,12 +6,11 @@ use native.Mathlib.Numerals.{add-one}
 use native.Mathlib.Omega.{arith}
 use borrow.Author.Tests.{eq-eqb}
 use lib.ListN.{length, take, drop, getD, drop-of-length-le}
-use Rattle.words.specs.Steps.{stepOf}
+use Rattle.rules.specs.Setting.{profileOf, readSteps}
 use Rattle.table.specs.File.{judge, tableIn}
 use Rattle.table.proofs.Accepted.{accepted}
 use Rattle.table.proofs.AcceptedTable.{body-readable, question-start}
 use Rattle.table.proofs.Terms.{from-place}
-use Rattle.rules.specs.Setting.{base}
 use Rattle.rules.specs.Tableau.{start}
 use Rattle.rules.specs.Comparison.{a-clash, a-circle}
 use Rattle.rules.specs.Verdict.{malformed, not-allowed, not-unified, leaves-open}
@@ -23,7 +22,9 @@ use Rattle.tableaux.specs.Ready.{openLeaves, Ready, NotesKept, Begun}
 use Rattle.index.specs.Noting.{Few, Indexed}
 use Rattle.index.proofs.Linking.{indexed-same}
 use Rattle.engine.proofs.Entries.{few-literals}
-use Rattle.engine.specs.Checking.{statusFor, NotedFor, Moved, PlayAt, Says, Checked, AcceptedAs, RefusedAs}
+use Rattle.engine.specs.Ended.{settingFor}
+use Rattle.engine.specs.declared.Conditions.{Conditions}
+use Rattle.engine.specs.Checking.{statusFor, NotedFor, Moved, PlayAt, Says, readFor, Checked, AcceptedAs, RefusedAs}
 use Rattle.tableaux.specs.declared.tableau.Place.{Place}
 use Rattle.engine.specs.declared.check.Judged.{Judged}
 use Rattle.engine.specs.declared.check.Judged.the-variants.{On, Malformed, NotAllowed, Clashes, Circular}
@@ -32,15 +33,15 @@ use Rattle.engine.proofs.Places.{question-placed}
 use Rattle.engine.proofs.Performed.{open-first}
 
 -- the steps before an index are taken, and what is left decides
-pub record Running (f m : List ℕ) (bound : ℕ) (offered : List ℕ) (place : Place) (i : ℕ) : Type 0 where
+pub record Running (f m : List ℕ) (conditions : Conditions) (offered : List ℕ) (place : Place) (i : ℕ) : Type 0 where
   pub ready : Ready f m place
   pub unnumbered : (v : ℕ) → v < 528 → markAt m v ≡ 0
   pub steps : place .steps ≡ i
   pub within : i ≤ length offered
   pub play : Play
-  pub noted : NotedFor bound f m
+  pub noted : NotedFor (conditions .bound) f m
   pub stands : PlayAt f m place play
-  pub same : check (base (tableIn f) bound) (map stepOf offered) ≡ checkFrom (base (tableIn f) bound) play i (map stepOf (drop i offered))
+  pub same : check (settingFor f conditions) (readSteps (profileOf (conditions .restarts)) offered) ≡ checkFrom (settingFor f conditions) play i (readSteps (profileOf (conditions .restarts)) (drop i offered))
 
 -- the body of an accepted file, as its literals are noted
 pub body-literals : (f : List ℕ) → judge f .status ≡ 0 → {body : ℕ} → body ≡ length f - 4 → (body ≤ length f) × (body ≤ 16000) × Few (take body f)
@@ -70,7 +71,7 @@ module _ (f : List ℕ) (accepts : judge f .status ≡ 0) where
           questions = rw (b .copies, b .start, eq-eqb question (judge f .question) e);
         }
 
-    pub run-begin : {bound : ℕ} {m₀ : List ℕ} → NotedFor bound f m₀ → NotesKept m₀ m → (offered : List ℕ) → Running f m bound offered place 0
+    pub run-begin : {conditions : Conditions} {m₀ : List ℕ} → NotedFor (conditions .bound) f m₀ → NotesKept m₀ m → (offered : List ℕ) → Running f m conditions offered place 0
     unfolding check
     run-begin noted kept offered =
         record {
@@ -85,20 +86,20 @@ module _ (f : List ℕ) (accepts : judge f .status ≡ 0) where
         }
 
 -- a step
-module _ {f m : List ℕ} {bound : ℕ} {offered : List ℕ} {place : Place} {i : ℕ} (g : Running f m bound offered place i) where
+module _ {f m : List ℕ} {conditions : Conditions} {offered : List ℕ} {place : Place} {i : ℕ} (g : Running f m conditions offered place i) where
   module _ (h : i < length offered) where
     abbrev outcome : Performed
-    outcome = perform (base (tableIn f) bound) (g .play) (stepOf (getD offered i 0))
+    outcome = perform (settingFor f conditions) (g .play) (readFor conditions (getD offered i 0))
 
-    same-step : check (base (tableIn f) bound) (map stepOf offered)
-        ≡ onwards outcome (stepOf (getD offered i 0)) i (λ q. checkFrom (base (tableIn f) bound) q (suc i) (map stepOf (drop (i + 1) offered)))
+    same-step : check (settingFor f conditions) (readSteps (profileOf (conditions .restarts)) offered)
+        ≡ onwards outcome (readFor conditions (getD offered i 0)) i (λ q. checkFrom (settingFor f conditions) q (suc i) (readSteps (profileOf (conditions .restarts)) (drop (i + 1) offered)))
     unfolding checkFrom
     same-step = g .same ∙ rw (from-place offered i h)
 
-    pub run-on : {m′ : List ℕ} {j : Judged} → Checked f m m′ bound place (getD offered i 0) j → {next : Place} → j ≡ On next → Running f m′ bound offered next (i + 1)
+    pub run-on : {m′ : List ℕ} {j : Judged} → Checked f m m′ conditions place (getD offered i 0) j → {next : Place} → j ≡ On next → Running f m′ conditions offered next (i + 1)
     unfolding onwards
     run-on {m′} {j} k {next} e =
-        let here : Checked f m m′ bound place (getD offered i 0) (On next) = rw e at k in
+        let here : Checked f m m′ conditions place (getD offered i 0) (On next) = rw e at k in
         let moved : Moved f m m′ place next = here .moves in
         let goes = here .says (g .play) (g .stands) in
         record {
@@ -112,7 +113,7 @@ module _ {f m : List ℕ} {bound : ℕ} {offered : List ℕ} {place : Place} {i 
           same = same-step ∙ rw (goes .1, add-one);
         }
 
-    refuse : (m′ : List ℕ) (j : Judged) → Says f m′ (stepOf (getD offered i 0)) j outcome → ((next : Place) → j ≡ On next → ⊥) → RefusedAs f bound offered (statusFor j) i
+    refuse : (m′ : List ℕ) (j : Judged) → Says f m′ (readFor conditions (getD offered i 0)) j outcome → ((next : Place) → j ≡ On next → ⊥) → RefusedAs f conditions offered (statusFor j) i
     unfolding onwards
     refuse m′ (On next) k n = absurd (n next refl)
     refuse m′ Malformed k n = record { why = malformed; stops = same-step ∙ rw (k .0, k .1); number = refl }
@@ -120,8 +121,8 @@ module _ {f m : List ℕ} {bound : ℕ} {offered : List ℕ} {place : Place} {i 
     refuse m′ Clashes k n = record { why = not-unified a-clash; stops = same-step ∙ rw k; number = refl }
     refuse m′ Circular k n = record { why = not-unified a-circle; stops = same-step ∙ rw k; number = refl }
 
-    pub run-refuses : {m′ : List ℕ} (j : Judged) → Checked f m m′ bound place (getD offered i 0) j → ((next : Place) → j ≡ On next → ⊥) → {status : ℕ} → status ≡ statusFor j
-        → RefusedAs f bound offered status (place .steps)
+    pub run-refuses : {m′ : List ℕ} (j : Judged) → Checked f m m′ conditions place (getD offered i 0) j → ((next : Place) → j ≡ On next → ⊥) → {status : ℕ} → status ≡ statusFor j
+        → RefusedAs f conditions offered status (place .steps)
     run-refuses {m′} j k n e = rw (e, g .steps) (refuse m′ j (k .says (g .play) (g .stands)) n)
 
   -- the end
@@ -129,15 +130,15 @@ module _ {f m : List ℕ} {bound : ℕ} {offered : List ℕ} {place : Place} {i 
     all : i ≡ length offered
     all = omega (arith, g .within)
 
-    same-end : check (base (tableIn f) bound) (map stepOf offered) ≡ atEnd (g .play) i (openLeaves f m place)
+    same-end : check (settingFor f conditions) (readSteps (profileOf (conditions .restarts)) offered) ≡ atEnd (g .play) i (openLeaves f m place)
     unfolding checkFrom
     same-end = g .same ∙ rw (drop-of-length-le offered {i = i} h, ← g .stands .leaves)
 
-    pub run-open : (place .head ≡ 0 → ⊥) → RefusedAs f bound offered 15 (place .steps)
+    pub run-open : (place .head ≡ 0 → ⊥) → RefusedAs f conditions offered 15 (place .steps)
     unfolding atEnd
     run-open n = record { why = leaves-open; stops = same-end ∙ rw (open-first (g .ready) (omega arith), g .steps); number = refl }
 
-    pub run-done : place .head ≡ 0 → {question : ℕ} → question ≡ judge f .question → AcceptedAs f m question bound offered (place .steps)
+    pub run-done : place .head ≡ 0 → {question : ℕ} → question ≡ judge f .question → AcceptedAs f m question conditions offered (place .steps)
     unfolding atEnd
     run-done z e =
         record {

@@ -89,13 +89,13 @@ module _ {f m₀ : List ℕ} {task : Task} {place : Place} (treats : Treats f m�
       rowing-end treats (rowing-by treats none (rw z at rowing)) e
 
   module _ {m : List ℕ} (again : Again f m₀ m place) {above height : ℕ} (climbing : Climbing f m₀ place above height) (some-above : above ≡ 0 → ⊥) where
-    small : above ≤ 199
+    small : above ≤ 231
     small = omega (arith, climbing .high, treats .ready .head, treats .ready .room, treats .ready .good .copies)
 
     pub climb-small : (length m ≡ 16384) × (0 < above) × (above ≤ 231)
     climb-small = (again .good .size, omega arith, omega (arith, small))
 
-    pub climb-few : height < 199
+    pub climb-few : height < 231
     climb-few = omega (arith, climbing .high, treats .ready .head, treats .ready .room, treats .ready .good .copies)
 
     inside : above - 1 < place .leaves

@@ -1,4 +1,5 @@
 -- The search of an accepted file: what it begins with, and what it comes to.
+use mathlib.Core.Bool.{Bool, true, false}
 use mathlib.Core.Path.{_≡_, sym, ap, _∙_}
 use mathlib.Core.List.{List, [], _∷_}
 use Prim.Native.Nat.{ℕ, _+_, _-_, _^_, _≤_, _<_}
@@ -10,11 +11,13 @@ use Rattle.table.specs.File.{judge, tableIn}
 use Rattle.table.specs.Syntax.{Clause}
 use Rattle.table.proofs.Accepted.{accepted}
 use Rattle.table.proofs.AcceptedTable.{body-readable, question-start, accepted-within}
-use Rattle.rules.specs.Setting.{base}
 use Rattle.rules.specs.Machinery.Play.{begin, check, plays, reported, searchFor}
 use Rattle.rules.specs.Machinery.Run.{search}
 use Rattle.rules.specs.Tableau.{start, hang, copyOf}
-use Rattle.rules.proofs.Search.{any-depth-says, at-most-199-left}
+use Rattle.rules.specs.Setting.{profileOf, longestProof}
+use Rattle.rules.proofs.Demands.{passed-closed, proof-is-short}
+use Rattle.rules.proofs.Search.{any-depth-says, steps-left-few}
+use Rattle.engine.specs.Ended.{settingFor}
 use Rattle.engine.specs.Ended as ended
 use Rattle.unification.specs.State.{startAt, copiesOf, ClauseAt, bindingsOf}
 use Rattle.tableaux.specs.Leaves.{questionsAmong}
@@ -23,12 +26,17 @@ use Rattle.index.specs.Noting.{Few, Linked}
 use Rattle.index.proofs.Linking.{linked-same}
 use Rattle.engine.proofs.Entries.{few-literals}
 use Rattle.engine.specs.Searching.{questionAt, Asked, roomAt, Treats, Leaves, Tells, Treated, Ends}
+use Rattle.engine.specs.declared.Conditions.{Conditions}
 use Rattle.engine.specs.declared.search.Ending.{Ending}
 use Rattle.engine.specs.declared.search.Ending.the-variants.{Found, Nothing, Out}
 use Rattle.engine.specs.declared.search.Searched.{Searched}
 use Rattle.engine.specs.declared.search.Task.{Task}
 use Rattle.tableaux.specs.declared.tableau.Place.{Place}
 use Rattle.engine.proofs.Places.{question-placed}
+
+longest : (restarts : Bool) → longestProof (profileOf restarts) ≤ 231
+longest true = omega arith
+longest false = omega arith
 
 -- an accepted file
 module _ (f : List ℕ) (z : judge f .status ≡ 0) {question : ℕ} (eq : question ≡ judge f .question) where
@@ -72,9 +80,9 @@ module _ (f : List ℕ) (z : judge f .status ≡ 0) {question : ℕ} (eq : quest
           questions = sym first-question;
         }
 
-  module _ (small : (i : ℕ) → getD f i 0 < 2 ^ 32) {bound : ℕ} (low : bound ≤ 32) where
+  module _ (small : (i : ℕ) → getD f i 0 < 2 ^ 32) (conditions : Conditions) (low : conditions .bound ≤ 32) where
     abbrev task : Task
-    task = record { body = length f - 4; bound = bound }
+    task = record { body = length f - 4; question = question; bound = conditions .bound; restarts = conditions .restarts }
 
     pub file-asked : Asked f task
     file-asked =
@@ -84,30 +92,31 @@ module _ (f : List ℕ) (z : judge f .status ≡ 0) {question : ℕ} (eq : quest
           readable = body-readable f z;
           small = small;
           low = low;
+          asks = question-last;
         }
 
     module _ {m : List ℕ} {place : Place} (begun : Begun f m question place) where
-      pub find-treats : {m₀ : List ℕ} → (0 < bound → Linked f (length f - 4) m₀ 0) → NotesKept m₀ m → Treats f m task place
+      pub find-treats : {m₀ : List ℕ} → (0 < conditions .bound → Linked f (length f - 4) m₀ 0) → NotesKept m₀ m → Treats f m task place
       find-treats linked kept =
           record { asked = file-asked; ready = begun .ready; linked = λ some. linked-same (begun .ready .good .size) kept (linked some) }
 
-      enough : roomAt f m task place ≤ 199
+      enough : roomAt f m task place ≤ 231
       enough = omega (arith, begun .ready .taken, begun .ready .room, begun .copies, begun .steps)
 
       stands : Stands f m (questionAt f task) place (begin (tableIn f) .tableau) (begin (tableIn f) .bindings)
       stands = rw question-last at (begun-stands begun)
 
-      deep : (budget : ℕ) → searchFor (base (tableIn f) bound) budget ≡ reported budget (search (plays (base (tableIn f) bound)) 200 budget (begin (tableIn f)))
+      deep : (budget : ℕ) → searchFor (settingFor f conditions) budget ≡ reported budget (search (plays (settingFor f conditions)) 232 budget (begin (tableIn f)))
       deep budget =
-          any-depth-says (base (tableIn f) bound) 200 budget (omega (arith, at-most-199-left (base (tableIn f) bound) (accepted-within f z) low))
+          any-depth-says (settingFor f conditions) 232 budget (omega (arith, steps-left-few (settingFor f conditions) (accepted-within f z) low, longest (conditions .restarts)))
 
       module _ {m′ : List ℕ} {budget : ℕ} {r : Searched} (treated : Treated f m m′ task place budget r) where
-        pub find-ends : Ends (r .ending) f m′ question bound budget r
+        pub find-ends : Ends (r .ending) f m′ question conditions budget r
         unfolding reported check
-        find-ends = go (r .ending) (treated .leaves) (treated .tells (begin (tableIn f)) stands 199 enough)
+        find-ends = go (r .ending) (treated .leaves) (treated .tells (begin (tableIn f)) stands 231 enough)
           where
-            go : (e : Ending) → Leaves e f m m′ place r → Tells e f m′ task place r (begin (tableIn f)) (search (plays (base (tableIn f) bound)) 200 budget (begin (tableIn f)))
-                → Ends e f m′ question bound budget r
+            go : (e : Ending) → Leaves e f m m′ place r → Tells e f m′ task place r (begin (tableIn f)) (search (plays (settingFor f conditions)) 232 budget (begin (tableIn f)))
+                → Ends e f m′ question conditions budget r
             go Found l h =
                 let steps : r .steps ≡ length (h .path) = omega (arith, h .count, begun .steps) in
                 let from : 1984 + place .steps ≡ 1984 = omega (arith, begun .steps) in
@@ -117,7 +126,7 @@ module _ (f : List ℕ) (z : judge f .status ≡ 0) {question : ℕ} (eq : quest
                   says = deep budget ∙ ap (reported budget) (h .says);
                   within = treated .within;
                   count = steps;
-                  few = l .few;
+                  few = rw steps (proof-is-short (settingFor f conditions) (accepted-within f z) low (h .path) (passed-closed (settingFor f conditions) (h .path) (h .play) (h .passes 0) .0));
                   noted = rw steps (rw from at (h .noted));
                   passes = h .passes 0;
                   ended =

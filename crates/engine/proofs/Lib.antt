@@ -27,3 +27,6 @@ pub mod Attempts
 pub mod Climbs
 pub mod Treating
 pub mod Finding
+pub mod Profiles
+pub mod Nowhere
+pub mod NowhereSeen

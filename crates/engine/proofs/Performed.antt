@@ -1,6 +1,6 @@
 -- From a step on the work words to the rules' own: what a step that was taken comes to, for every play that the work words stand for.
 use mathlib.Core.Path.{_≡_, refl, sym, ap, _∙_}
-use mathlib.Core.Bool.{true, not}
+use mathlib.Core.Bool.{true, cond, not}
 use mathlib.Core.List.{List, [], _∷_, _++_}
 use mathlib.Core.Option.{none, some}
 use Prim.Native.Nat.{ℕ, zero, suc, _+_, _*_, _-_, _/_, _%_, _^_, _≤_, _<_}
@@ -12,20 +12,20 @@ use lib.ListN.{length, drop, getD, getElem?}
 use Rattle.words.specs.Fields.{arityOf, symbolOf, negativeOf, literalShaped, variablesOf}
 use Rattle.words.proofs.Packed.{bits-small, literal-predicate, literal-arity}
 use Rattle.words.specs.declared.Step.{Step}
-use Rattle.words.specs.declared.Step.the-variants.{Reduction}
-use Rattle.table.specs.Syntax.{Literal, Clause, Table}
+use Rattle.words.specs.declared.Step.the-variants.{Reduction, Restart}
+use Rattle.table.specs.Syntax.{Literal, literalUnder, Clause}
 use Rattle.table.specs.Reading.{fault}
 use Rattle.table.specs.Decode.{clauseOf}
-use Rattle.rules.specs.Setting.{base}
+use Rattle.rules.specs.Setting.{Setting}
 use Rattle.rules.specs.Substitution.{Variable}
-use Rattle.rules.specs.Tableau.{Leaf, Tableau, atom, fits, ancestor, closing, copyOf, hang, questionsWith, afterReduction, fresh, stepped}
+use Rattle.rules.specs.Tableau.{Leaf, Tableau, atom, fits, ancestor, closing, copyOf, hang, questionsWith, afterReduction, afterRestart, fresh, stepped}
 use Rattle.rules.specs.Machinery.Unify.{Unified, made, unify}
-use Rattle.rules.specs.Machinery.Play.{Play, boundBy, newest, performed, perform}
-use Rattle.rules.proofs.Steps.{reduces, extends, done, afterEntry}
-use Rattle.unification.specs.State.{startAt, copiesOf, nextAt, ownWords, wordsAt, literalAtReference, bound}
+use Rattle.rules.specs.Machinery.Play.{Play, boundBy, newest, closesPair, performed, perform}
+use Rattle.rules.proofs.Steps.{reduces, extends, restarts, MayExtend, MayRestart, done, afterEntry}
+use Rattle.unification.specs.State.{startAt, copiesOf, nextAt, ownWords, ClauseAt, wordsAt, literalAtReference, bound}
 use Rattle.unification.specs.Good.{wordAt, Inside, LiteralStands, Good, Outcome}
 use Rattle.tableaux.specs.Leaves.{chain, leafAt, leavesFrom, questionsAmong}
-use Rattle.tableaux.specs.Ready.{openLeaves, Ready, Stands, Alike, restOf, Reduced, Hung, Extended}
+use Rattle.tableaux.specs.Ready.{openLeaves, Ready, Stands, Alike, restOf, Reduced, Hung, OneMore, Extended, Restarted}
 use Rattle.engine.specs.Performing.{Comes}
 use Rattle.index.specs.Scanning.{otherSign}
 use Rattle.tableaux.specs.Entering.{Owes, LiteralAt, Enters, extensionAt}
@@ -39,7 +39,7 @@ use Rattle.engine.proofs.Fitting.{fits-by-word, other-word}
 use Rattle.engine.proofs.Sound.{Sound, literal, sound-word, nothing-owed, owing-arity}
 use Rattle.engine.proofs.Places.{place-word, place-inside}
 use Rattle.tableaux.proofs.Hanging.{own-inside, own-word}
-use Rattle.tableaux.proofs.Literals.{copy-entered, copy-others}
+use Rattle.tableaux.proofs.Literals.{copy-all, copy-entered, copy-others}
 
 -- a chain from a head on: the head's item, and the chain from where it leads
 pub chain-first : {A : Type 0} (item : ℕ → A) (link : ℕ → ℕ) (n head : ℕ) → 0 < head → head ≤ n → link (head - 1) ≤ head - 1
@@ -70,11 +70,11 @@ questions-same m m′ question zero s = refl
 questions-same m m′ question (suc n) s = rw (s n (omega arith), questions-same m m′ question n (λ c l. s c (omega arith)))
 
 -- the newest pair decides
-module _ (t : Table) (limit : ℕ) (p : Play) (s : Step) where
-  performs : {y : Tableau} (l n : Literal Variable) → stepped (base t limit) (p .tableau) s ≡ some y → y .pairs ≡ closing l n ∷ p .tableau .pairs
-      → perform (base t limit) p s ≡ boundBy y (unify (p .bindings) (atom l) (atom n))
+module _ (S : Setting) (p : Play) (s : Step) where
+  pub performs : {y : Tableau} (l n : Literal Variable) → closesPair s ≡ true → stepped S (p .tableau) s ≡ some y → y .pairs ≡ closing l n ∷ p .tableau .pairs
+      → perform S p s ≡ boundBy y (unify (p .bindings) (atom l) (atom n))
   unfolding perform performed newest closing
-  performs l n e h = rw (e, h)
+  performs l n c e h = rw (c, e, h)
 
 comes : (f m : List ℕ) (question : ℕ) (place : Place) (meeting : Meeting) (u : Unified) → Outcome f m meeting u → (y : Tableau)
     → (meeting ≡ Made → Stands f m question place y (bound f m)) → Comes f m question place meeting (boundBy y u)
@@ -88,6 +88,11 @@ pub record Literate (f m : List ℕ) (r : ℕ) : Type 0 where
   pub word : getD (wordsAt f m r) 0 0 ≡ wordAt f m r
   pub shaped : literalShaped (wordAt f m r) ≡ true
   pub owing : Owes (variablesOf (getD f (startAt m (r / 256)) 0)) (arityOf (wordAt f m r)) (drop 1 (wordsAt f m r))
+
+-- its sign
+pub literate-sign : {f m : List ℕ} {r : ℕ} → Literate f m r → literalAtReference f m r .negative ≡ negativeOf (wordAt f m r)
+unfolding literalAtReference literalUnder
+literate-sign l = rw (l .word)
 
 module _ (f m : List ℕ) (r : ℕ) where
   abbrev starts : ℕ
@@ -169,7 +174,7 @@ pub fits-other : {f m m′ : List ℕ} {r s : ℕ} → Small f → Literate f m 
 fits-other {f} {m} {m′} {r} {s} small a b e = fits-at small a b ∙ eq-eqb (wordAt f m′ s) (otherSign (wordAt f m r)) e
 
 -- a reduction that was taken
-module _ (t : Table) (limit : ℕ) {f m m′ : List ℕ} {question : ℕ} {place : Place} {other step : ℕ} {r : Taken} (ready : Ready f m place) (some-open : 0 < place .head)
+module _ (S : Setting) {f m m′ : List ℕ} {question : ℕ} {place : Place} {other step : ℕ} {r : Taken} (ready : Ready f m place) (some-open : 0 < place .head)
     (reduced : Reduced f m m′ place other step r) (p : Play) (stands : Stands f m question place (p .tableau) (p .bindings)) where
   abbrev leaf : Leaf
   leaf = leafAt f m (place .head - 1)
@@ -191,14 +196,20 @@ module _ (t : Table) (limit : ℕ) {f m m′ : List ℕ} {question : ℕ} {place
               ∙ ap (questionsAmong m′ question) (sym (reduced .copies));
         }
 
-    pub reduction-comes : Comes f m′ question (r .place) (r .meeting) (perform (base t limit) p (Reduction height))
+    pub reduction-comes : Comes f m′ question (r .place) (r .meeting) (perform S p (Reduction height))
     reduction-comes =
-        rw (performs t limit p (Reduction height) {y = after} (leaf .literal) (literalAtReference f m other) (done (reduces (stands .leaves ∙ open-first ready some-open) there fitting refl)) refl, stands .bindings)
+        rw (performs S p (Reduction height) {y = after} (leaf .literal) (literalAtReference f m other) refl (done (reduces (stands .leaves ∙ open-first ready some-open) there fitting refl)) refl, stands .bindings)
         (comes f m′ question (r .place) (r .meeting) _ (reduced .outcome) after (λ _. reduction-stands))
 
+-- one copy more of a clause, among the copies of the question
+module _ {f m m′ : List ℕ} {place : Place} {start step : ℕ} (one : OneMore f m m′ place start step) (question : ℕ) where
+  pub copies-asked : questionsAmong m′ question (copiesOf m′) ≡ cond (eqb start question) (questionsAmong m question (copiesOf m) ++ (copiesOf m ∷ [])) (questionsAmong m question (copiesOf m))
+  unfolding questionsAmong
+  copies-asked = rw (one .copies, add-one, questions-same m m′ question (copiesOf m) (one .stepping .later .starts), one .starts)
+
 -- an extension that was taken
-module _ (t : Table) (limit : ℕ) {f m m′ : List ℕ} {question : ℕ} {place : Place} {step : ℕ} {r : Taken} (ready : Ready f m place) (some-open : 0 < place .head)
-    (scan : Scan) (enters : Enters f t question scan) (extended : Extended f m m′ place (scan .start) (scan .at - scan .start) step r) (few : copiesOf m ≤ limit)
+module _ (S : Setting) {f m m′ : List ℕ} {question : ℕ} {place : Place} {step : ℕ} {r : Taken} (ready : Ready f m place) (some-open : 0 < place .head)
+    (scan : Scan) (enters : Enters f (S .table) question scan) (extended : Extended f m m′ place (scan .start) (scan .at - scan .start) step r)
     (p : Play) (stands : Stands f m question place (p .tableau) (p .bindings)) where
   abbrev reference : ℕ
   reference = copiesOf m * 256 + (scan .at - scan .start)
@@ -206,19 +217,19 @@ module _ (t : Table) (limit : ℕ) {f m m′ : List ℕ} {question : ℕ} {place
   abbrev treated : Leaf
   treated = leafAt f m (place .head - 1)
 
-  module _ (fitting : fits (treated .literal) (literalAtReference f m′ reference) ≡ true) where
+  module _ (may : MayExtend S (p .tableau) treated) (fitting : fits (treated .literal) (literalAtReference f m′ reference) ≡ true) where
     abbrev clause : Clause
     clause = clauseOf (ownWords f (scan .start))
 
     abbrev grown : Tableau
-    grown = afterEntry t (p .tableau) treated (leavesFrom f m (place .leaves) (restOf m place)) (scan .clauses - 1) (scan .literals) clause (literalAtReference f m′ reference)
+    grown = afterEntry (S .table) (p .tableau) treated (leavesFrom f m (place .leaves) (restOf m place)) (scan .clauses - 1) (scan .literals) clause (literalAtReference f m′ reference)
 
     copy-number : suc (p .tableau .extensions) ≡ copiesOf m
     copy-number = stands .extensions
 
-    asked : questionsWith t (scan .clauses - 1) (copiesOf m) (questionsAmong m question (copiesOf m)) ≡ questionsAmong m′ question (copiesOf m′)
-    unfolding questionsAmong questionsWith
-    asked = rw (extended .copies, add-one, questions-same m m′ question (copiesOf m) (extended .stepping .later .starts), extended .starts, enters .asks)
+    asked : questionsWith (S .table) (scan .clauses - 1) (copiesOf m) (questionsAmong m question (copiesOf m)) ≡ questionsAmong m′ question (copiesOf m′)
+    unfolding questionsWith
+    asked = rw (copies-asked (extended .copied) question, enters .asks)
 
     extension-stands : Hung f m m′ place (r .place) (scan .start) (scan .at - scan .start) → Stands f m′ question (r .place) grown (bound f m′)
     extension-stands hung =
@@ -226,17 +237,45 @@ module _ (t : Table) (limit : ℕ) {f m m′ : List ℕ} {question : ℕ} {place
           leaves =
               rw copy-number
               (ap (λ (ls : List (Literal Variable)). hang (treated .literal ∷ treated .branch) ls ++ leavesFrom f m (place .leaves) (restOf m place))
-              (sym (copy-others (enters .begins) m′ (copiesOf m) (extended .starts) (scan .literals) (enters .offset)))
+              (sym (copy-others (enters .begins) m′ (copiesOf m) (extended .copied .starts) (scan .literals) (enters .offset)))
               ∙ sym (hung .leaves));
           bindings = refl;
-          extensions = ap suc copy-number ∙ sym (extended .copies ∙ add-one (copiesOf m));
+          extensions = ap suc copy-number ∙ sym (extended .copied .copies ∙ add-one (copiesOf m));
           questions = rw (copy-number, stands .questions) asked;
         }
 
-    pub extension-comes : Comes f m′ question (r .place) (r .meeting) (perform (base t limit) p (extensionAt scan))
+    pub extension-comes : Comes f m′ question (r .place) (r .meeting) (perform S p (extensionAt scan))
     extension-comes =
         let literal : getElem? (copyOf (suc (p .tableau .extensions)) clause) (scan .literals) ≡ some (literalAtReference f m′ reference) =
-        rw copy-number (copy-entered (enters .begins) m′ (copiesOf m) (extended .starts) (scan .literals) (enters .offset)) in
-        let low : p .tableau .extensions < limit = omega (arith, copy-number) in
-        rw (performs t limit p (extensionAt scan) {y = grown} (treated .literal) (literalAtReference f m′ reference) (done (extends (stands .leaves ∙ open-first ready some-open) (refl, low) (enters .clause) literal fitting refl)) refl, stands .bindings)
+        rw copy-number (copy-entered (enters .begins) m′ (copiesOf m) (extended .copied .starts) (scan .literals) (enters .offset)) in
+        rw (performs S p (extensionAt scan) {y = grown} (treated .literal) (literalAtReference f m′ reference) refl (done (extends (stands .leaves ∙ open-first ready some-open) may (enters .clause) literal fitting refl)) refl, stands .bindings)
         (comes f m′ question (r .place) (r .meeting) _ (extended .outcome) grown (λ e. extension-stands (extended .hung e)))
+
+-- a restart that was taken
+module _ (S : Setting) {f m m′ : List ℕ} {question : ℕ} {place next : Place} {step : ℕ} (ready : Ready f m place) (some-open : 0 < place .head)
+    (begins : ClauseAt f question) (asks : S .table .question ≡ clauseOf (ownWords f question)) (restarted : Restarted f m m′ place question step next)
+    (p : Play) (stands : Stands f m question place (p .tableau) (p .bindings)) where
+  abbrev left-open : Leaf
+  left-open = leafAt f m (place .head - 1)
+
+  abbrev begun-again : Tableau
+  begun-again = afterRestart (S .table) (p .tableau) left-open (leavesFrom f m (place .leaves) (restOf m place))
+
+  restart-stands : Stands f m′ question next begun-again (p .bindings)
+  restart-stands =
+      record {
+        leaves =
+            rw (stands .extensions, asks)
+            (ap (λ (ls : List (Literal Variable)). hang (left-open .literal ∷ left-open .branch) ls ++ leavesFrom f m (place .leaves) (restOf m place))
+            (sym (copy-all begins m′ (copiesOf m) (restarted .copied .starts)))
+            ∙ sym (restarted .hung .leaves));
+        bindings = stands .bindings ∙ sym (restarted .bindings);
+        extensions = ap suc (stands .extensions) ∙ sym (restarted .copied .copies ∙ add-one (copiesOf m));
+        questions = rw (stands .extensions, stands .questions) (sym (copies-asked (restarted .copied) question ∙ rw (eq-eqb question question refl)));
+      }
+
+  pub restart-comes : MayRestart S (p .tableau) left-open → Comes f m′ question next Made (perform S p Restart)
+  unfolding perform performed
+  restart-comes may =
+      let goes : stepped S (p .tableau) Restart ≡ some begun-again = done (restarts (stands .leaves ∙ open-first ready some-open) may refl) in
+      rw goes (record { tableau = begun-again; bindings = p .bindings }, refl, restart-stands)

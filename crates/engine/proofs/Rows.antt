@@ -18,6 +18,7 @@ use Rattle.engine.specs.declared.search.Task.{Task}
 use Rattle.tableaux.specs.declared.tableau.Place.{Place}
 use Rattle.index.proofs.Linking.{linked-same}
 use Rattle.engine.proofs.Again.{open-stays, ready-again, stands-again, again-none, again-then}
+use Rattle.engine.proofs.Attempts.{tell-nothing}
 
 -- a row, and another after it
 module _ (S : Program) (depth : ℕ) (s : S .State) where
@@ -132,7 +133,7 @@ module _ {f m₀ : List ℕ} {task : Task} {place : Place} (treats : Treats f m�
           }
         where
           left-so : (e : Ending) → (e ≡ Nothing → ⊥) → Leaves e f m m′ place r → Leaves e f m₀ m′ place r
-          left-so Found s l = record { good = l .good; few = l .few; earlier = λ i h. l .earlier i h ∙ rowing .again .later .steps i h; marks = λ v h. l .marks v h ∙ rowing .again .later .marks v h }
+          left-so Found s l = record { good = l .good; earlier = λ i h. l .earlier i h ∙ rowing .again .later .steps i h; marks = λ v h. l .marks v h ∙ rowing .again .later .marks v h }
           left-so Nothing s l = absurd (s refl)
           left-so Out s l = tt
 
@@ -155,3 +156,22 @@ module _ {f m₀ : List ℕ} {task : Task} {place : Place} (treats : Treats f m�
                   rowing .same p stands depth enough
                   ∙ row-goes-on (plays (settingAt f task)) depth left p (stepBy candidate) rest (r .left) (omega arith) said;
             }
+
+    -- the last candidate
+    pub rowing-last : (candidate : Move) → Rowing f m₀ m task place tries left all (stepBy candidate ∷ []) → (left ≡ 0 → ⊥)
+        → {m′ : List ℕ} {r : Searched} → Attempted f m m′ task place candidate (left - 1) r → Rowed f m₀ m′ task place tries r all
+    rowing-last candidate rowing some {m′} {r} attempted = go (r .ending) refl
+      where
+        ended : r .ending ≡ Nothing → Rowed f m₀ m′ task place tries r all
+        ended none =
+            let on = rowing-on candidate rowing some attempted none in
+            record {
+              leaves = rw none (on .again);
+              within = on .within;
+              tells = λ p stands depth enough. tell-nothing f m′ task place r p _ (r .ending) none (on .same p stands depth enough ∙ row-end (plays (settingAt f task)) depth (r .left) p);
+            }
+
+        go : (e : Ending) → r .ending ≡ e → Rowed f m₀ m′ task place tries r all
+        go Found e = rowing-ended candidate rowing some attempted (λ z. let y : _≡_ {A = ℕ} 0 1 = cc in absurd (omega arith))
+        go Nothing e = ended e
+        go Out e = rowing-ended candidate rowing some attempted (λ z. let y : _≡_ {A = ℕ} 0 1 = cc in absurd (omega arith))

@@ -1,26 +1,30 @@
 -- A candidate that is tried: what the step asks, and what it comes to.
-use mathlib.Core.Path.{_≡_, ap, _∙_}
+use mathlib.Core.Path.{_≡_, sym, ap, _∙_}
 use mathlib.Core.List.{List}
 use Prim.Native.Nat.{ℕ, suc, _+_, _-_, _≤_, _<_}
 use native.Mathlib.Omega.{arith}
 use borrow.Author.Tests.{lt-ltb}
 use lib.ListN.{length, getD, length-append, length-map}
 use Rattle.words.specs.Steps.{wellFormed, stepWord, encoded}
+use Rattle.words.specs.declared.Step.the-variants.{Restart}
+use Rattle.table.specs.Decode.{clauseOf}
 use Rattle.rules.specs.Tableau.{Leaf, hang}
-use Rattle.unification.specs.State.{copiesOf}
+use Rattle.unification.specs.State.{copiesOf, ownWords, ClauseAt}
 use Rattle.unification.specs.Good.{wordAt}
 use Rattle.tableaux.specs.Leaves.{leavesFrom}
-use Rattle.tableaux.specs.Ready.{openLeaves, leafOf, restOf, Alike, Reducible, Reduced, Extensible, Hung, Extended, hangingAt}
+use Rattle.tableaux.specs.Ready.{openLeaves, leafOf, restOf, Alike, Reducible, Reduced, Openable, Extensible, OneMore, Hung, Extended, Restarted, hangingAt}
 use Rattle.tableaux.specs.Entering.{Enters, extensionAt}
-use Rattle.engine.specs.Searching.{tableAt, questionAt, Treats, Wanted, Against, Allows, Onward, Takes}
+use Rattle.engine.specs.Searching.{tableAt, settingAt, questionAt, Treats, Wanted, Against, Allows, Onward, Takes}
 use Rattle.index.specs.declared.entries.Scan.{Scan}
-use Rattle.engine.specs.declared.search.Move.the-variants.{Reduce, Enter}
+use Rattle.engine.specs.declared.search.Move.the-variants.{Reduce, Enter, Renew}
 use Rattle.engine.specs.declared.search.Task.{Task}
 use Rattle.tableaux.specs.declared.tableau.Place.{Place}
 use Rattle.tableaux.specs.declared.tableau.Taken.{Taken}
-use Rattle.engine.proofs.Performed.{open-first, Literate, stands-literate, copy-word, copy-literate, alike-other, fits-other, reduction-comes, extension-comes}
-use Rattle.tableaux.proofs.Literals.{hanging-fewer, clause-few}
+use Rattle.unification.specs.declared.unify.Meeting.the-variants.{Made}
+use Rattle.engine.proofs.Performed.{open-first, Literate, stands-literate, copy-word, copy-literate, alike-other, fits-other, reduction-comes, extension-comes, restart-comes}
+use Rattle.tableaux.proofs.Literals.{hanging-fewer, hanging-all, clause-few}
 use Rattle.engine.proofs.Entries.{clause-small, literal-small}
+use Rattle.engine.proofs.Places.{question-placed}
 
 module _ {f m : List ℕ} {task : Task} {place : Place} (treats : Treats f m task place) (some-open : 0 < place .head) where
   -- the leaf that is treated
@@ -35,6 +39,27 @@ module _ {f m : List ℕ} {task : Task} {place : Place} (treats : Treats f m tas
 
   one-open : length (openLeaves f m place) ≡ suc (length others)
   one-open = ap length (open-first (treats .ready) some-open)
+
+  -- a copy can be made while the bound's are not used
+  opens : {start : ℕ} → ClauseAt f start → copiesOf m ≤ task .bound → Openable f m place start
+  opens clause unused = record { ready = treats .ready; some-open = some-open; copies = omega (arith, treats .asked .low); clause = clause }
+
+  -- what hangs under the leaf, and the room that falls
+  module _ {m′ : List ℕ} {start offset step : ℕ} {next : Place} (one : OneMore f m m′ place start step) (hung : Hung f m m′ place next start offset) where
+    hangs : length (openLeaves f m′ next) ≡ length (hangingAt f start offset) + length others
+    unfolding hang
+    hangs = ap length (hung .leaves) ∙ simp (length-append, length-map)
+
+    hung-onward : length (hangingAt f start offset) ≤ 7 → copiesOf m ≤ task .bound → Onward f m m′ task place next
+    hung-onward few unused =
+        let more = hangs in
+        let n = one-open in
+        record {
+          ready = hung .ready;
+          leaves = omega (arith, hung .ready .taken, treats .ready .taken, hung .steps);
+          steps = hung .steps;
+          falls = omega (arith, one .copies);
+        }
 
   module _ {literal height : ℕ} (against : Against f m place literal height) where
     pub reduces : Reducible f m place literal
@@ -59,7 +84,7 @@ module _ {f m : List ℕ} {task : Task} {place : Place} (treats : Treats f m tas
             good = reduced .stepping .good;
             later = reduced .stepping .later;
             noted = reduced .stepping .noted;
-            comes = λ p stands. reduction-comes (tableAt f task) (task .bound) (treats .ready) some-open reduced p stands height (against .there)
+            comes = λ p stands. reduction-comes (settingAt f task) (treats .ready) some-open reduced p stands height (against .there)
                 (fits-other (treats .asked .small) leaf-literate (stands-literate f m literal (against .stands)) (against .word));
             onward = λ e. reduced-onward;
           }
@@ -83,10 +108,7 @@ module _ {f m : List ℕ} {task : Task} {place : Place} (treats : Treats f m tas
     pub extends : Extensible f m place (scan .start) offset
     extends =
         record {
-          ready = treats .ready;
-          some-open = some-open;
-          copies = omega (arith, allows .2, treats .asked .low);
-          clause = enters .begins;
+          openable = opens (enters .begins) (allows .2);
           number = scan .literals;
           entered = enters .offset;
           alike = rw entered-at (alike (getD f (scan .at) 0) (allows .1));
@@ -101,29 +123,39 @@ module _ {f m : List ℕ} {task : Task} {place : Place} (treats : Treats f m tas
         )
 
     module _ {m′ : List ℕ} {step : ℕ} {r : Taken} (written : step ≡ encoded (extensionAt scan)) (extended : Extended f m m′ place (scan .start) offset step r) where
-      hangs : Hung f m m′ place (r .place) (scan .start) offset → length (openLeaves f m′ (r .place)) ≡ length (hangingAt f (scan .start) offset) + length others
-      unfolding hang
-      hangs hung = ap length (hung .leaves) ∙ simp (length-append, length-map)
-
-      extended-onward : Hung f m m′ place (r .place) (scan .start) offset → Onward f m m′ task place (r .place)
-      extended-onward hung =
-          let more = hangs hung in
-          let n = one-open in
-          let few : length (hangingAt f (scan .start) offset) ≤ 6 = omega (arith, hanging-fewer (enters .begins) (scan .literals) (enters .offset), clause-few (enters .begins)) in
-          record {
-            ready = hung .ready;
-            leaves = omega (arith, hung .ready .taken, treats .ready .taken, hung .steps);
-            steps = hung .steps;
-            falls = omega (arith, extended .copies, allows .2);
-          }
-
       pub takes-extension : Takes f m m′ task place (Enter scan) r
       takes-extension =
+          let few : length (hangingAt f (scan .start) offset) ≤ 7 = omega (arith, hanging-fewer (enters .begins) (scan .literals) (enters .offset), clause-few (enters .begins)) in
           record {
-            good = extended .stepping .good;
-            later = extended .stepping .later;
-            noted = extended .stepping .noted ∙ written ∙ step-noted;
-            comes = λ p stands. extension-comes (tableAt f task) (task .bound) (treats .ready) some-open scan enters extended (allows .2) p stands
-                (fits-other (treats .asked .small) leaf-literate (copy-literate (enters .literal) m′ (copiesOf m) (extended .starts)) (copy-word (enters .literal) m′ (copiesOf m) (extended .starts) ∙ ap (λ (k : ℕ). getD f k 0) entered-at ∙ allows .1));
-            onward = λ e. extended-onward (extended .hung e);
+            good = extended .copied .stepping .good;
+            later = extended .copied .stepping .later;
+            noted = extended .copied .stepping .noted ∙ written ∙ step-noted;
+            comes = λ p stands. extension-comes (settingAt f task) (treats .ready) some-open scan enters extended p stands (allows .3, omega (arith, stands .extensions, allows .2))
+                (fits-other (treats .asked .small) leaf-literate (copy-literate (enters .literal) m′ (copiesOf m) (extended .copied .starts)) (copy-word (enters .literal) m′ (copiesOf m) (extended .copied .starts) ∙ ap (λ (k : ℕ). getD f k 0) entered-at ∙ allows .1));
+            onward = λ e. hung-onward (extended .copied) (extended .hung e) few (allows .2);
+          }
+
+  module _ (allows : Allows f m task place Renew) where
+    asked : (ClauseAt f (task .question)) × (tableAt f task .question ≡ clauseOf (ownWords f (task .question)))
+    asked =
+        let placed = question-placed f (task .body) (treats .asked .fits) (treats .asked .readable) in
+        rw (treats .asked .asks) (placed .0, sym (placed .1))
+
+    pub restarts : Openable f m place (task .question)
+    restarts = opens (asked .0) (allows .0)
+
+    module _ {m′ : List ℕ} {step : ℕ} {next : Place} (written : step ≡ encoded Restart) (restarted : Restarted f m m′ place (task .question) step next) where
+      step-written : step ≡ stepWord Restart
+      unfolding encoded wellFormed
+      step-written = written
+
+      pub takes-restart : Takes f m m′ task place Renew (record { meeting = Made; place = next })
+      takes-restart =
+          record {
+            good = restarted .copied .stepping .good;
+            later = restarted .copied .stepping .later;
+            noted = restarted .copied .stepping .noted ∙ step-written;
+            comes = λ p stands. rw (← treats .asked .asks)
+                (restart-comes (settingAt f task) (treats .ready) some-open (asked .0) (asked .1) restarted p (rw (treats .asked .asks) stands) (allows .1, omega (arith, stands .extensions, allows .0)));
+            onward = λ e. hung-onward (restarted .copied) (restarted .hung) (omega (arith, hanging-all (asked .0), clause-few (asked .0))) (allows .0);
           }

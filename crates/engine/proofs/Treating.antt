@@ -1,18 +1,20 @@
--- A leaf is treated: its reductions, then its extensions, unless the bound's are used.
+-- A leaf is treated: its reductions, then its restart or its extensions, unless the bound's are used.
 use mathlib.Core.Path.{_≡_, refl, sym, ap, ap₂, _∙_}
-use mathlib.Core.Bool.{false, cond}
+use mathlib.Core.Bool.{Bool, true, false, cond, _&&_}
 use mathlib.Core.List.{List, [], _∷_, _++_, map}
 use Prim.Native.Nat.{ℕ, suc, _-_, _/_, _%_, _^_, _≤_, _<_}
 use native.Mathlib.Omega.{arith}
 use borrow.Author.Tests.{lt-ltb, le-ltb}
 use lib.Dec.{ltb}
 use lib.ListN.{length, take, getD}
-use Rattle.words.specs.Fields.{kindOf, variablesOf}
+use Rattle.words.specs.Fields.{kindOf, negativeOf, variablesOf}
 use Rattle.words.specs.declared.Step.{Step}
+use Rattle.words.specs.declared.Step.the-variants.{Restart}
 use Rattle.table.specs.Limits.{Words}
 use Rattle.table.specs.Syntax.{allClauses}
 use Rattle.table.proofs.AcceptedTable.{words-each}
 use Rattle.table.proofs.BodyDecoding.{each-take}
+use Rattle.rules.specs.Setting.{profileOf}
 use Rattle.rules.specs.Order.{allClosed, candidates, candidatesAt, extensions}
 use Rattle.rules.specs.Machinery.Play.{Play, atEnd, checkFrom, plays}
 use Rattle.rules.specs.Machinery.Run.{Result, no-way, after, search, row}
@@ -24,11 +26,11 @@ use Rattle.tableaux.specs.Leaves.{leafAt}
 use Rattle.tableaux.specs.Ready.{openLeaves, Stands, leafOf}
 use Rattle.index.specs.Scanning.{otherSign}
 use Rattle.tableaux.specs.Entering.{extensionAt}
-use Rattle.engine.specs.Searching.{without, tableAt, settingAt, questionAt, roomAt, Treats, Wanted, Allows, Again, Leaves, Tells, Treated, Rowed, reductionsAt, extensionsAt, extensionsAhead}
+use Rattle.engine.specs.Searching.{without, tableAt, settingAt, questionAt, roomAt, Treats, Wanted, leafTreated, extendsAt, restartsAt, Allows, Again, Leaves, Tells, Treated, Attempted, Rowed, reductionsAt, extensionsAt, furtherAt, extensionsAhead}
 use Rattle.index.specs.declared.entries.Scan.{Scan}
 use Rattle.engine.specs.declared.search.Ending.{Ending}
 use Rattle.engine.specs.declared.search.Ending.the-variants.{Found, Nothing, Out}
-use Rattle.engine.specs.declared.search.Move.the-variants.{Enter}
+use Rattle.engine.specs.declared.search.Move.the-variants.{Enter, Renew}
 use Rattle.engine.specs.declared.search.Searched.{Searched}
 use Rattle.engine.specs.declared.search.Task.{Task}
 use Rattle.tableaux.specs.declared.tableau.Place.{Place}
@@ -38,11 +40,38 @@ use Rattle.index.proofs.Linking.{linked-same}
 use Rattle.index.proofs.Reached.{Leads, leads-first, all-ahead, lead-low, lead-unpacks, leads-next, lead-less, lead-ahead, lead-stands, lead-inside, lead-word, ahead-none}
 use Rattle.engine.proofs.Entries.{extensions-begin, scan-enters}
 use Rattle.engine.proofs.Fitting.{other-kind}
-use Rattle.engine.proofs.Performed.{open-first, Literate, stands-literate, stands-inside}
+use Rattle.engine.proofs.Performed.{open-first, Literate, literate-sign, stands-literate, stands-inside}
 use Rattle.engine.proofs.Again.{stands-again, again-then}
 use Rattle.engine.proofs.Attempts.{nothing-told}
 use Rattle.engine.proofs.Climbs.{leaf-stays, leaf-word-stays}
-use Rattle.engine.proofs.Rows.{row-append, tells-by, room-again, treats-again, Rowing, rowing-begin, rowing-by, rowing-end}
+use Rattle.engine.proofs.Profiles.{one-of, other-of}
+use Rattle.engine.proofs.Rows.{row-append, tells-by, room-again, treats-again, Rowing, rowing-begin, rowing-by, rowing-out, rowing-end, rowing-last}
+
+-- the candidates after the reductions, by the leaf and the number of copies
+abbrev furtherOf : List ℕ → Task → Leaf → ℕ → List Step
+furtherOf f task leaf copies =
+    cond (settingAt f task .profile .restarts (leaf .literal .negative) && ltb (copies - 1) (task .bound)) (Restart ∷ []) []
+    ++ cond (settingAt f task .profile .extends (leaf .literal .negative) && ltb (copies - 1) (task .bound)) (extensions (leaf .literal) copies 0 (allClauses (tableAt f task))) []
+
+module _ (f m : List ℕ) (task : Task) (place : Place) where
+  none-further : task .bound < copiesOf m → furtherAt f m task place ≡ []
+  none-further used = rw (le-ltb (copiesOf m - 1) (task .bound) (omega arith)) (go (restartsAt f m task place) (extendsAt f m task place))
+    where
+      go : (a b : Bool) → cond (a && false) (Restart ∷ []) [] ++ cond (b && false) (extensionsAt f m task place) [] ≡ []
+      go true true = refl
+      go true false = refl
+      go false true = refl
+      go false false = refl
+
+  module _ (unused : copiesOf m ≤ task .bound) (begun : 1 ≤ copiesOf m) where
+    within : ltb (copiesOf m - 1) (task .bound) ≡ true
+    within = lt-ltb (copiesOf m - 1) (task .bound) (omega arith)
+
+    all-extensions : restartsAt f m task place ≡ false → extendsAt f m task place ≡ true → furtherAt f m task place ≡ extensionsAt f m task place
+    all-extensions r e = rw (r, e, within)
+
+    only-restart : restartsAt f m task place ≡ true → extendsAt f m task place ≡ false → furtherAt f m task place ≡ Restart ∷ []
+    only-restart r e = rw (r, e, within)
 
 module _ {f m : List ℕ} {task : Task} {place : Place} (treats : Treats f m task place) where
   -- no leaf is open
@@ -57,7 +86,6 @@ module _ {f m : List ℕ} {task : Task} {place : Place} (treats : Treats f m tas
           leaves =
               record {
                 good = treats .ready .good;
-                few = omega (arith, treats .ready .taken, treats .ready .room, treats .ready .good .copies);
                 earlier = λ i l. refl;
                 marks = λ v l. refl;
               };
@@ -91,14 +119,15 @@ module _ {f m : List ℕ} {task : Task} {place : Place} (treats : Treats f m tas
 
     -- the candidates of the leaf
     listed : (p : Play) → Stands f m (questionAt f task) place (p .tableau) (p .bindings)
-        → candidates (settingAt f task) (p .tableau) ≡ reductionsAt f m place ++ cond (ltb (p .tableau .extensions) (task .bound)) (extensionsAt f m task place) []
+        → candidates (settingAt f task) (p .tableau) ≡ reductionsAt f m place ++ furtherAt f m task place
     unfolding candidates candidatesAt
-    listed p stands = rw (stands .leaves, open-first (treats .ready) some-open, stands .extensions)
+    listed p stands =
+        let used : copiesOf m - 1 ≡ p .tableau .extensions = omega (arith, stands .extensions) in
+        rw (stands .leaves, open-first (treats .ready) some-open, used, stands .extensions)
 
     searched : (p : Play) → Stands f m (questionAt f task) place (p .tableau) (p .bindings) → (depth left : ℕ)
         → search (plays (settingAt f task)) (suc depth) left p
-        ≡ after (row (plays (settingAt f task)) depth left p (reductionsAt f m place))
-        (λ rest. row (plays (settingAt f task)) depth rest p (cond (ltb (p .tableau .extensions) (task .bound)) (extensionsAt f m task place) []))
+        ≡ after (row (plays (settingAt f task)) depth left p (reductionsAt f m place)) (λ rest. row (plays (settingAt f task)) depth rest p (furtherAt f m task place))
     unfolding allClosed
     searched p stands depth left =
         let more : allClosed (p .tableau .leaves) ≡ false = rw (stands .leaves, open-first (treats .ready) some-open) in
@@ -134,62 +163,76 @@ module _ {f m : List ℕ} {task : Task} {place : Place} (treats : Treats f m tas
         pub treat-room : roomAt f m₁ task place ≡ roomAt f m task place
         treat-room = room-again task (treats .ready) back
 
-        pub treat-wanted-again : {wanted : ℕ} → Wanted f m place wanted → Wanted f m₁ place wanted
-        treat-wanted-again e = e ∙ ap otherSign (sym (leaf-word-stays (treats .ready) some-open (back .later)))
+        pub treat-word-again : {literal word : ℕ} → literal ≡ leafOf m place → word ≡ wordAt f m literal → word ≡ wordAt f m₁ (leafOf m₁ place)
+        treat-word-again el ew = ew ∙ ap (wordAt f m) el ∙ sym (leaf-word-stays (treats .ready) some-open (back .later))
 
-        onwards : (p : Play) → Stands f m (questionAt f task) place (p .tableau) (p .bindings) → (depth : ℕ) → roomAt f m task place ≤ depth
-            → search (plays (settingAt f task)) (suc depth) left p
-            ≡ row (plays (settingAt f task)) depth (r .left) p (cond (ltb (p .tableau .extensions) (task .bound)) (extensionsAt f m task place) [])
+        same-further : furtherAt f m task place ≡ furtherAt f m₁ task place
+        same-further = sym (ap₂ (λ (l : Leaf) (n : ℕ). furtherOf f task l n) (leaf-stays (treats .ready) some-open (back .later)) (back .copies))
+
+        -- what comes after the reductions ends it
+        pub treat-further : {m₂ : List ℕ} {r₂ : Searched} → Rowed f m₁ m₂ task place (r .left) r₂ (furtherAt f m₁ task place) → Treated f m m₂ task place left r₂
         unfolding after
-        onwards p stands depth enough =
-            searched p stands depth left
-            ∙ ap (λ (a : Result Step). after a (λ rest. row (plays (settingAt f task)) depth rest p (cond (ltb (p .tableau .extensions) (task .bound)) (extensionsAt f m task place) [])))
-            (nothing-told f m₁ task place r p _ (r .ending) nothing (reduced .tells p stands depth enough))
-
-        -- the bound's extensions are used
-        pub treat-used : task .bound < copiesOf m₁ → Treated f m m₁ task place left r
-        treat-used used =
+        treat-further {m₂} {r₂} further =
             record {
-              leaves = reduced .leaves;
-              within = reduced .within;
+              leaves = go (r₂ .ending) (further .leaves);
+              within = omega (arith, further .within, reduced .within);
               tells = λ p stands depth enough.
-                  let full : task .bound ≤ p .tableau .extensions = omega (arith, stands .extensions, back .copies) in
-                  let none : row (plays (settingAt f task)) depth (r .left) p (cond (ltb (p .tableau .extensions) (task .bound)) (extensionsAt f m task place) []) ≡ no-way (r .left) =
-                  rw (le-ltb (p .tableau .extensions) (task .bound) full) (row-end (plays (settingAt f task)) depth (r .left) p) in
-                  tells-by f m₁ task place r p (r .ending)
-                  (onwards p stands depth enough ∙ none ∙ sym (nothing-told f m₁ task place r p _ (r .ending) nothing (reduced .tells p stands depth enough)))
-                  (reduced .tells p stands depth enough);
-            }
-
-        -- the extensions end it
-        pub treat-extended : copiesOf m₁ ≤ task .bound → {m₂ : List ℕ} {r₂ : Searched} → Rowed f m₁ m₂ task place (r .left) r₂ (extensionsAt f m₁ task place) → Treated f m m₂ task place left r₂
-        treat-extended unused {m₂} {r₂} extended =
-            record {
-              leaves = go (r₂ .ending) (extended .leaves);
-              within = omega (arith, extended .within, reduced .within);
-              tells = λ p stands depth enough.
-                  let some-left : p .tableau .extensions < task .bound = omega (arith, stands .extensions, back .copies) in
-                  let all : row (plays (settingAt f task)) depth (r .left) p (cond (ltb (p .tableau .extensions) (task .bound)) (extensionsAt f m task place) [])
-                  ≡ row (plays (settingAt f task)) depth (r .left) p (extensionsAt f m₁ task place) =
-                  rw (lt-ltb (p .tableau .extensions) (task .bound) some-left) (ap (row (plays (settingAt f task)) depth (r .left) p) same-extensions) in
-                  tells-by f m₂ task place r₂ p (r₂ .ending) (onwards p stands depth enough ∙ all)
-                  (extended .tells p (stands-again (treats .ready) back p stands) depth (omega (arith, treat-room)));
+                  let onwards : search (plays (settingAt f task)) (suc depth) left p ≡ row (plays (settingAt f task)) depth (r .left) p (furtherAt f m₁ task place) =
+                  searched p stands depth left
+                  ∙ ap (λ (a : Result Step). after a (λ rest. row (plays (settingAt f task)) depth rest p (furtherAt f m task place)))
+                  (nothing-told f m₁ task place r p _ (r .ending) nothing (reduced .tells p stands depth enough))
+                  ∙ ap (row (plays (settingAt f task)) depth (r .left) p) same-further in
+                  tells-by f m₂ task place r₂ p (r₂ .ending) onwards (further .tells p (stands-again (treats .ready) back p stands) depth (omega (arith, treat-room)));
             }
           where
             go : (e : Ending) → Leaves e f m₁ m₂ place r₂ → Leaves e f m m₂ place r₂
-            go Found l = record { good = l .good; few = l .few; earlier = λ i h. l .earlier i h ∙ back .later .steps i h; marks = λ v h. l .marks v h ∙ back .later .marks v h }
+            go Found l = record { good = l .good; earlier = λ i h. l .earlier i h ∙ back .later .steps i h; marks = λ v h. l .marks v h ∙ back .later .marks v h }
             go Nothing l = again-then back l
             go Out l = tt
 
-            same-extensions : extensionsAt f m task place ≡ extensionsAt f m₁ task place
-            same-extensions =
-                sym (ap₂ (λ (l : Leaf) (n : ℕ). extensions (l .literal) n 0 (allClauses (tableAt f task))) (leaf-stays (treats .ready) some-open (back .later)) (back .copies))
+    -- after the reductions
+    module _ {word : ℕ} (ew : word ≡ wordAt f m (leafOf m place)) where
+      leaf-sign : leafTreated f m place .literal .negative ≡ negativeOf word
+      leaf-sign = literate-sign leaf-literate ∙ ap negativeOf (sym ew)
+
+      pub further-wanted : {wanted : ℕ} → wanted ≡ otherSign word → Wanted f m place wanted
+      further-wanted e = rw ew at e
+
+      pub further-used : task .bound < copiesOf m → {tries : ℕ} {r : Searched} → r ≡ without Nothing tries → Rowed f m m task place tries r (furtherAt f m task place)
+      further-used used {tries} e =
+          rowing-end treats (rowing-by treats (none-further f m task place used) (rowing-begin treats tries (furtherAt f m task place))) e
+
+      module _ (unused : copiesOf m ≤ task .bound) {q : Bool} (eq : q ≡ profileOf (task .restarts) .restarts (negativeOf word)) where
+        restarts-so : restartsAt f m task place ≡ q
+        restarts-so = ap (λ (b : Bool). profileOf (task .restarts) .restarts b) leaf-sign ∙ sym eq
+
+        pub further-extends : q ≡ false → extendsAt f m task place ≡ true
+        further-extends n = one-of (task .restarts) (leafTreated f m place .literal .negative) (restarts-so ∙ n)
+
+        pub further-extended : q ≡ false → {tries : ℕ} {m₁ : List ℕ} {r : Searched} → Rowed f m m₁ task place tries r (extensionsAt f m task place) → Rowed f m m₁ task place tries r (furtherAt f m task place)
+        further-extended n extended = rw (all-extensions f m task place unused (treats .ready .begun) (restarts-so ∙ n) (further-extends n)) extended
+
+        module _ (y : q ≡ true) where
+          one-restart : furtherAt f m task place ≡ Restart ∷ []
+          one-restart = only-restart f m task place unused (treats .ready .begun) (restarts-so ∙ y) (other-of (task .restarts) (leafTreated f m place .literal .negative) (restarts-so ∙ y))
+
+          restart-row : (tries : ℕ) → Rowing f m m task place tries tries (furtherAt f m task place) (Restart ∷ [])
+          restart-row tries = rowing-by treats one-restart (rowing-begin treats tries (furtherAt f m task place))
+
+          pub further-allows : Allows f m task place Renew
+          further-allows = (unused, restarts-so ∙ y)
+
+          pub further-out : {tries : ℕ} → tries ≡ 0 → {r : Searched} → r ≡ without Out tries → Rowed f m m task place tries r (furtherAt f m task place)
+          further-out {tries} z e = rowing-out treats (restart-row tries) z e
+
+          pub further-restarted : {tries : ℕ} → (tries ≡ 0 → ⊥) → {m₁ : List ℕ} {r : Searched} → Attempted f m m₁ task place Renew (tries - 1) r → Rowed f m m₁ task place tries r (furtherAt f m task place)
+          further-restarted {tries} n attempted = rowing-last treats Renew (restart-row tries) n attempted
 
     -- the extensions, by the notes of the body's literals
     body-small : Words (take (task .body) f)
     body-small = each-take (λ (w : ℕ). w < 2 ^ 32) (task .body) f (words-each f (treats .asked .small))
 
-    module _ (unused : copiesOf m ≤ task .bound) where
+    module _ (unused : copiesOf m ≤ task .bound) (may : extendsAt f m task place ≡ true) where
       pub linked : Linked f (task .body) m 0
       linked = treats .linked (omega (arith, treats .ready .begun))
 
@@ -245,4 +288,5 @@ module _ {f m : List ℕ} {task : Task} {place : Place} (treats : Treats f m tas
                   scan-enters f (task .body) (treats .asked .fits) (treats .asked .readable) (lead-stands linked-still wanted leads n en es) (lead-inside linked-still wanted leads n en es) (ap (λ (w : ℕ). kindOf w) word ∙ kind),
                   word ∙ wants ∙ ap otherSign (sym (leaf-word-stays (treats .ready) some-open (rowing .again .later))),
                   omega (arith, rowing .again .copies),
+                  ap (λ (l : Leaf). settingAt f task .profile .extends (l .literal .negative)) (leaf-stays (treats .ready) some-open (rowing .again .later)) ∙ may,
                 )

@@ -1,24 +1,26 @@
 -- Machinery: what the functions of the checker promise one another, and what its verdict stands for. No public contract speaks of it.
-use mathlib.Core.List.{List, map}
+use mathlib.Core.Bool.{Bool, false, cond}
+use mathlib.Core.List.{List}
 use mathlib.Core.Option.{Option, none, some}
 use mathlib.Core.Path.{_≡_}
 use Prim.Native.Nat.{ℕ, _+_, _-_, _≤_, _<_}
+use lib.Dec.{eqb}
 use lib.ListN.{length}
-use Rattle.words.specs.Steps.{stepOf}
 use Rattle.words.specs.declared.Step.{Step}
-use Rattle.table.specs.File.{judge, tableIn}
-use Rattle.rules.specs.Setting.{base}
+use Rattle.table.specs.File.{judge}
+use Rattle.rules.specs.Setting.{profileOf, readStep, readSteps}
 use Rattle.rules.specs.Comparison.{a-clash, a-circle}
 use Rattle.rules.specs.Verdict.{Refusal, malformed, not-allowed, not-unified, statusOf}
 use Rattle.rules.specs.Machinery.Play.{Play, Performed, goes-on, not-possible, clashes, circular, perform, refusal, passed, stopped, check}
 use Rattle.unification.specs.State.{markAt, literalAt, parentAt}
-use Rattle.tableaux.specs.Leaves.{chain}
+use Rattle.tableaux.specs.Leaves.{chain, leafAt}
 use Rattle.tableaux.specs.Ready.{Ready, Stands, NotesKept}
 use Rattle.index.specs.Noting.{Indexed}
-use Rattle.engine.specs.Ended.{Ended}
+use Rattle.engine.specs.Ended.{settingFor, Ended}
 use Rattle.tableaux.specs.declared.tableau.Place.{Place}
 use Rattle.unification.specs.declared.unify.Meeting.{Meeting}
 use Rattle.unification.specs.declared.unify.Meeting.the-variants.{Made, Clash, Circle}
+use Rattle.engine.specs.declared.Conditions.{Conditions}
 use Rattle.engine.specs.declared.check.Above.{Above}
 use Rattle.engine.specs.declared.check.Above.the-variants.{At, Nothing}
 use Rattle.engine.specs.declared.check.Judged.{Judged}
@@ -80,23 +82,31 @@ Says f m s NotAllowed o = (o ≡ not-possible) × (refusal s ≡ not-allowed)
 Says f m s Clashes o = o ≡ clashes
 Says f m s Circular o = o ≡ circular
 
+-- a word read as a step
+abbrev pub readFor : Conditions → ℕ → Step
+readFor conditions word = readStep (profileOf (conditions .restarts)) word
+
+-- the leftmost leaf, if any is open, is restarted
+abbrev pub restartsLeaf : List ℕ → List ℕ → Conditions → Place → Bool
+restartsLeaf f m conditions place = cond (eqb (place .head) 0) false (profileOf (conditions .restarts) .restarts (leafAt f m (place .head - 1) .literal .negative))
+
 -- one step at a place, for every play that the work words stand for
-pub record Checked (f m m′ : List ℕ) (bound : ℕ) (place : Place) (word : ℕ) (r : Judged) : Type 0 where
+pub record Checked (f m m′ : List ℕ) (conditions : Conditions) (place : Place) (word : ℕ) (r : Judged) : Type 0 where
   pub moves : Moves f m m′ place r
-  pub says : (p : Play) → PlayAt f m place p → Says f m′ (stepOf word) r (perform (base (tableIn f) bound) p (stepOf word))
+  pub says : (p : Play) → PlayAt f m place p → Says f m′ (readFor conditions word) r (perform (settingFor f conditions) p (readFor conditions word))
 
 -- the verdict on all steps
-pub record AcceptedAs (f m : List ℕ) (question bound : ℕ) (offered : List ℕ) (steps : ℕ) : Type 0 where
+pub record AcceptedAs (f m : List ℕ) (question : ℕ) (conditions : Conditions) (offered : List ℕ) (steps : ℕ) : Type 0 where
   pub count : steps ≡ length offered
   pub play : Play
-  pub passes : check (base (tableIn f) bound) (map stepOf offered) ≡ passed play
+  pub passes : check (settingFor f conditions) (readSteps (profileOf (conditions .restarts)) offered) ≡ passed play
   pub ended : Ended f m question play
 
-pub record RefusedAs (f : List ℕ) (bound : ℕ) (offered : List ℕ) (status place : ℕ) : Type 0 where
+pub record RefusedAs (f : List ℕ) (conditions : Conditions) (offered : List ℕ) (status place : ℕ) : Type 0 where
   pub why : Refusal
-  pub stops : check (base (tableIn f) bound) (map stepOf offered) ≡ stopped why place
+  pub stops : check (settingFor f conditions) (readSteps (profileOf (conditions .restarts)) offered) ≡ stopped why place
   pub number : status ≡ statusOf why
 
-abbrev pub Decided : List ℕ → List ℕ → ℕ → ℕ → List ℕ → Verdict → Type 0
-Decided f m question bound offered (Accepted steps) = AcceptedAs f m question bound offered steps
-Decided f m question bound offered (Refused status place) = RefusedAs f bound offered status place
+abbrev pub Decided : List ℕ → List ℕ → ℕ → Conditions → List ℕ → Verdict → Type 0
+Decided f m question conditions offered (Accepted steps) = AcceptedAs f m question conditions offered steps
+Decided f m question conditions offered (Refused status place) = RefusedAs f conditions offered status place

@@ -4,3 +4,4 @@ pub mod Performing
 pub mod Ended
 pub mod Checking
 pub mod Searching
+pub mod Nowhere

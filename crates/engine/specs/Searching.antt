@@ -1,23 +1,25 @@
 -- Machinery: how the search over the work words goes along with the rules' own. No public contract speaks of it.
-use mathlib.Core.List.{List, map}
+use mathlib.Core.Bool.{Bool, true, cond, _&&_}
+use mathlib.Core.List.{List, [], _∷_, _++_, map}
 use mathlib.Core.Option.{some}
 use mathlib.Core.Path.{_≡_}
 use Prim.Native.Nat.{ℕ, suc, _+_, _*_, _-_, _^_, _≤_, _<_}
+use lib.Dec.{ltb}
 use lib.ListN.{length, take, drop, getD, set}
 use Rattle.words.specs.Steps.{stepWord}
 use Rattle.words.specs.declared.Step.{Step}
-use Rattle.words.specs.declared.Step.the-variants.{Reduction}
+use Rattle.words.specs.declared.Step.the-variants.{Reduction, Restart}
 use Rattle.table.specs.Body.{starts, lastOf}
 use Rattle.table.specs.Decode.{tableOf}
 use Rattle.table.specs.Limits.{Readable}
 use Rattle.table.specs.Syntax.{Table, allClauses}
-use Rattle.rules.specs.Setting.{Setting, base}
+use Rattle.rules.specs.Setting.{Setting, profileOf, over}
 use Rattle.rules.specs.Order as order
 use Rattle.rules.specs.Machinery.Play.{Play, passed, perform, checkFrom, plays, searchFor}
 use Rattle.rules.specs.Machinery.Run.{Result, way, no-way, ran-out, search, one, row}
 use Rattle.rules.specs.Tableau.{Leaf, ancestor}
 use Rattle.rules.specs.Verdict.{finds-none, runs-out}
-use Rattle.table.specs.File.{tableIn}
+use Rattle.engine.specs.Ended.{settingFor}
 use Rattle.engine.specs.Ended as ended
 use Rattle.unification.specs.State.{copiesOf, countOf, stepAt, markAt, literalAtReference, bound}
 use Rattle.unification.specs.Good.{wordAt, LiteralStands, Good, Undone}
@@ -27,10 +29,11 @@ use Rattle.engine.specs.Performing.{Comes}
 use Rattle.index.specs.Noting.{keysIn, scansIn, ahead, Linked}
 use Rattle.index.specs.Scanning.{otherSign}
 use Rattle.tableaux.specs.Entering.{Enters, extensionAt}
+use Rattle.engine.specs.declared.Conditions.{Conditions}
 use Rattle.engine.specs.declared.search.Ending.{Ending}
 use Rattle.engine.specs.declared.search.Ending.the-variants.{Found, Nothing, Out}
 use Rattle.engine.specs.declared.search.Move.{Move}
-use Rattle.engine.specs.declared.search.Move.the-variants.{Reduce, Enter}
+use Rattle.engine.specs.declared.search.Move.the-variants.{Reduce, Enter, Renew}
 use Rattle.engine.specs.declared.search.Searched.{Searched}
 use Rattle.engine.specs.declared.search.Task.{Task}
 use Rattle.tableaux.specs.declared.tableau.Place.{Place}
@@ -42,7 +45,7 @@ abbrev pub tableAt : List ℕ → Task → Table
 tableAt f task = tableOf (take (task .body) f)
 
 abbrev pub settingAt : List ℕ → Task → Setting
-settingAt f task = base (tableAt f task) (task .bound)
+settingAt f task = over (profileOf (task .restarts)) (tableAt f task) (task .bound)
 
 abbrev pub questionAt : List ℕ → Task → ℕ
 questionAt f task = lastOf 0 (starts 0 0 (take (task .body) f))
@@ -54,10 +57,11 @@ pub record Asked (f : List ℕ) (task : Task) : Type 0 where
   pub readable : Readable (take (task .body) f)
   pub small : (i : ℕ) → getD f i 0 < 2 ^ 32
   pub low : task .bound ≤ 32
+  pub asks : task .question ≡ questionAt f task
 
--- the most steps that can still be taken at a place
+-- no more steps than this can still be taken at a place: a copy has at most seven literals
 abbrev pub roomAt : List ℕ → List ℕ → Task → Place → ℕ
-roomAt f m task place = length (openLeaves f m place) + 6 * (task .bound + 1 - copiesOf m)
+roomAt f m task place = length (openLeaves f m place) + 7 * (task .bound + 1 - copiesOf m)
 
 -- the work words can be searched from a place on
 pub record Treats (f m : List ℕ) (task : Task) (place : Place) : Type 0 where
@@ -76,6 +80,14 @@ leafTreated f m place = leafAt f m (place .head - 1)
 abbrev pub stepBy : Move → Step
 stepBy (Reduce literal height) = Reduction height
 stepBy (Enter scan) = extensionAt scan
+stepBy Renew = Restart
+
+-- what the rules let be done with the leftmost leaf, by its sign
+abbrev pub extendsAt : List ℕ → List ℕ → Task → Place → Bool
+extendsAt f m task place = settingAt f task .profile .extends (leafTreated f m place .literal .negative)
+
+abbrev pub restartsAt : List ℕ → List ℕ → Task → Place → Bool
+restartsAt f m task place = settingAt f task .profile .restarts (leafTreated f m place .literal .negative)
 
 -- an ancestor's literal at a height fits; a literal that is entered fits, and the bound's extensions are not used
 pub record Against (f m : List ℕ) (place : Place) (literal height : ℕ) : Type 0 where
@@ -86,7 +98,8 @@ pub record Against (f m : List ℕ) (place : Place) (literal height : ℕ) : Typ
 abbrev pub Allows : List ℕ → List ℕ → Task → Place → Move → Type 0
 Allows f m task place (Reduce literal height) = Against f m place literal height
 Allows f m task place (Enter scan) =
-    Enters f (tableAt f task) (questionAt f task) scan × Wanted f m place (getD f (scan .at) 0) × (copiesOf m ≤ task .bound)
+    Enters f (tableAt f task) (questionAt f task) scan × Wanted f m place (getD f (scan .at) 0) × (copiesOf m ≤ task .bound) × (extendsAt f m task place ≡ true)
+Allows f m task place Renew = (copiesOf m ≤ task .bound) × (restartsAt f m task place ≡ true)
 
 -- a step was taken
 pub record Onward (f m m′ : List ℕ) (task : Task) (place next : Place) : Type 0 where
@@ -124,7 +137,6 @@ without ending left = record { ending = ending; left = left; steps = 0 }
 -- a proof was found from a place on: the steps to it are noted, the work words hold what it comes to, and the numbers of variables are as they were
 pub record Noting (f m m′ : List ℕ) (place : Place) (r : Searched) : Type 0 where
   pub good : Good f m′
-  pub few : r .steps ≤ 199
   pub earlier : (i : ℕ) → i < place .steps → stepAt m′ i ≡ stepAt m i
   pub marks : (v : ℕ) → v < 528 → markAt m′ v ≡ markAt m v
 
@@ -171,6 +183,12 @@ reductionsAt f m place = order.reductions (leafTreated f m place .literal) 1 (le
 abbrev pub extensionsAt : List ℕ → List ℕ → Task → Place → List Step
 extensionsAt f m task place = order.extensions (leafTreated f m place .literal) (copiesOf m) 0 (allClauses (tableAt f task))
 
+-- the candidates after the reductions
+abbrev pub furtherAt : List ℕ → List ℕ → Task → Place → List Step
+furtherAt f m task place =
+    cond (restartsAt f m task place && ltb (copiesOf m - 1) (task .bound)) (Restart ∷ []) []
+    ++ cond (extendsAt f m task place && ltb (copiesOf m - 1) (task .bound)) (extensionsAt f m task place) []
+
 -- the extensions from a link on
 abbrev pub extensionsAhead : List ℕ → Task → ℕ → ℕ → List Step
 extensionsAhead f task wanted link = map extensionAt (ahead (keysIn f (task .body)) (scansIn f (task .body)) wanted link)
@@ -180,7 +198,7 @@ Rowed f m m′ task place budget r steps =
     Runs f m m′ task place budget r (λ depth p. row (plays (settingAt f task)) depth budget p steps)
 
 -- the search as a whole
-abbrev pub Ends : Ending → List ℕ → List ℕ → ℕ → ℕ → ℕ → Searched → Type 0
-Ends Found f m question bound budget r = ended.Found (tableIn f) f m question bound budget (r .left) (r .steps)
-Ends Nothing f m question bound budget r = (searchFor (base (tableIn f) bound) budget ≡ finds-none (budget - r .left)) × (r .left ≤ budget)
-Ends Out f m question bound budget r = searchFor (base (tableIn f) bound) budget ≡ runs-out budget
+abbrev pub Ends : Ending → List ℕ → List ℕ → ℕ → Conditions → ℕ → Searched → Type 0
+Ends Found f m question conditions budget r = ended.Found f m question conditions budget (r .left) (r .steps)
+Ends Nothing f m question conditions budget r = (searchFor (settingFor f conditions) budget ≡ finds-none (budget - r .left)) × (r .left ≤ budget)
+Ends Out f m question conditions budget r = searchFor (settingFor f conditions) budget ≡ runs-out budget

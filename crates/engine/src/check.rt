@@ -1,4 +1,6 @@
 // The checker: an offered proof, step by step.
+use crate::Conditions;
+use crate::profile;
 use index::entries;
 use index::entries::Candidate;
 use index::notes;
@@ -9,15 +11,15 @@ use unification::memory;
 use unification::unify::Meeting;
 use words::Step;
 use words::fields;
+ghost use mathlib.Core.Bool.{false};
 ghost use mathlib.Core.Path.{_≡_};
 ghost use Prim.Native.Nat.{ℕ, _-_, _≤_, _<_};
 ghost use lib.ListN.{length, getElem?};
-ghost use Rattle.words.specs.Steps.{stepOf};
 ghost use Rattle.table.specs.File.{judge};
 ghost use Rattle.unification.specs.Good.{wordAt};
 ghost use Rattle.tableaux.specs.Ready.{Ready, leafOf};
 ghost use Rattle.index.specs.Scanning.{otherSign};
-ghost use Rattle.engine.specs.Checking.{Upward, lineage, aboveOf, judgedBy, statusFor, NotedFor, Checked, Decided};
+ghost use Rattle.engine.specs.Checking.{Upward, lineage, aboveOf, judgedBy, statusFor, NotedFor, readFor, restartsLeaf, Checked, Decided};
 
 // The checker's statuses.
 pub const MALFORMED: u32 = 12;
@@ -90,8 +92,8 @@ fn by_meeting(taken: Taken) -> Judged
 }
 
 fn reduction(file: &[u32], work: &mut [u32], place: Place, word: u32, height: u32) -> Judged
-    requires { ⌜ Ready (now file) (now work) place × (stepOf word ≡ Step.Reduction height) ⌝ }
-    ensures { λ r. ⌜ ((bound : ℕ) → Checked (now (file .entry)) (now (work .entry)) (now (work .exit)) bound place word r) ⌝ }
+    requires { ⌜ Ready (now file) (now work) place ⌝ }
+    ensures { λ r. ⌜ ((conditions : Conditions) → readFor conditions word ≡ Step.Reduction height → Checked (now (file .entry)) (now (work .entry)) (now (work .exit)) conditions place word r) ⌝ }
 {
     let head = place.head;
     if head == 0 {
@@ -130,19 +132,19 @@ fn prepare(file: &[u32], work: &mut [u32], bound: u32)
 fn extension(
     file: &[u32],
     work: &mut [u32],
-    bound: u32,
+    conditions: Conditions,
     place: Place,
     word: u32,
     clause: u32,
     literal: u32,
 ) -> Judged
-    requires { ⌜ Ready (now file) (now work) place × (judge (now file) .status ≡ 0) × (bound ≤ 32) × (stepOf word ≡ Step.Extension clause literal) × NotedFor bound (now file) (now work) ⌝ }
-    ensures { λ r. ⌜ Checked (now (file .entry)) (now (work .entry)) (now (work .exit)) bound place word r ⌝ }
+    requires { ⌜ Ready (now file) (now work) place × (judge (now file) .status ≡ 0) × (conditions .bound ≤ 32) × (readFor conditions word ≡ Step.Extension clause literal) × NotedFor (conditions .bound) (now file) (now work) × (restartsLeaf (now file) (now work) conditions place ≡ false) ⌝ }
+    ensures { λ r. ⌜ Checked (now (file .entry)) (now (work .entry)) (now (work .exit)) conditions place word r ⌝ }
 {
     if place.head == 0 {
         return Judged::NotAllowed;
     }
-    if bound < work[memory::COPIES] {
+    if conditions.bound < work[memory::COPIES] {
         return Judged::NotAllowed;
     }
     let found = notes::entry(work, clause, literal);
@@ -157,22 +159,60 @@ fn extension(
     by_meeting(tableau::extend(file, work, place, start, at - start, word))
 }
 
-fn step_taken(file: &[u32], work: &mut [u32], bound: u32, place: Place, word: u32) -> Judged
-    requires { ⌜ Ready (now file) (now work) place × (judge (now file) .status ≡ 0) × (bound ≤ 32) × NotedFor bound (now file) (now work) ⌝ }
-    ensures { λ r. ⌜ Checked (now (file .entry)) (now (work .entry)) (now (work .exit)) bound place word r ⌝ }
+// Whether the leftmost leaf, if any is open, is restarted.
+fn restarts_leaf(file: &[u32], work: &[u32], conditions: Conditions, place: Place) -> bool
+    requires { ⌜ Ready (now file) (now work) place ⌝ }
+    ensures { λ r. ⌜ r ≡ restartsLeaf (now (file .entry)) (now (work .entry)) conditions place ⌝ }
 {
-    let step = words::steps::decode(word);
+    let head = place.head;
+    if head == 0 {
+        return false;
+    }
+    let word = memory::word_at(file, work, tableau::literal_of(work, head));
+    profile::restarts(conditions.restarts, word)
+}
+
+fn restart(
+    file: &[u32],
+    work: &mut [u32],
+    question: u32,
+    conditions: Conditions,
+    place: Place,
+    word: u32,
+) -> Judged
+    requires { ⌜ Ready (now file) (now work) place × (judge (now file) .status ≡ 0) × (conditions .bound ≤ 32) × (question ≡ judge (now file) .question) × (readFor conditions word ≡ Step.Restart) ⌝ }
+    ensures { λ r. ⌜ Checked (now (file .entry)) (now (work .entry)) (now (work .exit)) conditions place word r ⌝ }
+{
+    if !restarts_leaf(file, work, conditions, place) {
+        return Judged::NotAllowed;
+    }
+    if conditions.bound < work[memory::COPIES] {
+        return Judged::NotAllowed;
+    }
+    Judged::On(tableau::restart(file, work, place, question, word))
+}
+
+fn step_taken(
+    file: &[u32],
+    work: &mut [u32],
+    question: u32,
+    conditions: Conditions,
+    place: Place,
+    word: u32,
+) -> Judged
+    requires { ⌜ Ready (now file) (now work) place × (judge (now file) .status ≡ 0) × (conditions .bound ≤ 32) × NotedFor (conditions .bound) (now file) (now work) × (question ≡ judge (now file) .question) ⌝ }
+    ensures { λ r. ⌜ Checked (now (file .entry)) (now (work .entry)) (now (work .exit)) conditions place word r ⌝ }
+{
+    let step = words::steps::decode_for(conditions.restarts, word);
     match step {
         Step::Reduction(height) => reduction(file, work, place, word, height),
-        Step::Extension(clause, literal) => extension(
-            file,
-            work,
-            bound,
-            place,
-            word,
-            clause,
-            literal,
-        ),
+        Step::Extension(clause, literal) => {
+            if restarts_leaf(file, work, conditions, place) {
+                return Judged::NotAllowed;
+            }
+            extension(file, work, conditions, place, word, clause, literal)
+        }
+        Step::Restart => restart(file, work, question, conditions, place, word),
         Step::Malformed => Judged::Malformed,
     }
 }
@@ -190,15 +230,21 @@ fn status(judged: Judged) -> u32
     }
 }
 
-pub fn run(file: &[u32], work: &mut [u32], question: u32, bound: u32, offered: &[u32]) -> Verdict
-    requires { ⌜ (length (now work) ≡ 16384) × (judge (now file) .status ≡ 0) × (question ≡ judge (now file) .question) × (bound ≤ 32) ⌝ }
-    ensures { λ r. ⌜ Decided (now (file .entry)) (now (work .exit)) question bound (now (offered .entry)) r ⌝ }
+pub fn run(
+    file: &[u32],
+    work: &mut [u32],
+    question: u32,
+    conditions: Conditions,
+    offered: &[u32],
+) -> Verdict
+    requires { ⌜ (length (now work) ≡ 16384) × (judge (now file) .status ≡ 0) × (question ≡ judge (now file) .question) × (conditions .bound ≤ 32) ⌝ }
+    ensures { λ r. ⌜ Decided (now (file .entry)) (now (work .exit)) question conditions (now (offered .entry)) r ⌝ }
 {
-    prepare(file, work, bound);
+    prepare(file, work, conditions.bound);
     let mut place = tableau::begin(file, work, question);
     let mut i = 0;
     while i < offered.len() {
-        let judged = step_taken(file, work, bound, place, offered[i]);
+        let judged = step_taken(file, work, question, conditions, place, offered[i]);
         let Judged::On(next) = judged else {
             return Verdict::Refused(status(judged), place.steps);
         };

@@ -2,4 +2,12 @@
 pub mod answer;
 pub mod check;
 pub mod once;
+mod profile;
 pub mod search;
+mod vain;
+
+// What a search or a check goes by: the bound, and whether positive leaves are restarted.
+pub struct Conditions {
+    pub bound: u32,
+    pub restarts: bool,
+}

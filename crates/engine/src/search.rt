@@ -1,4 +1,7 @@
 // Depth-first search in the stated order.
+use crate::Conditions;
+use crate::profile;
+use crate::vain;
 use index::entries;
 use index::entries::Scan;
 use index::links;
@@ -12,6 +15,7 @@ use unification::unify::Meeting;
 use words::Step;
 use words::fields;
 use words::steps;
+ghost use mathlib.Core.Bool.{true};
 ghost use mathlib.Core.List.{List};
 ghost use mathlib.Core.Path.{_≡_};
 ghost use Prim.Native.Nat.{ℕ, _≤_, _<_, _-_};
@@ -19,19 +23,24 @@ ghost use lib.ListN.{length, take};
 ghost use Rattle.index.specs.Noting.{Few, Linked};
 ghost use Rattle.table.specs.File.{judge};
 ghost use Rattle.unification.specs.State.{copiesOf, countOf};
-ghost use Rattle.unification.specs.Good.{Good};
-ghost use Rattle.engine.specs.Searching.{without, Treats, Wanted, Allows, Takes, Restored, Treated, Attempted, Rowed, reductionsAt, extensionsAt, Ends};
+ghost use Rattle.unification.specs.Good.{wordAt, Good};
+ghost use Rattle.tableaux.specs.Ready.{leafOf};
+ghost use Rattle.engine.specs.Searching.{without, Treats, Wanted, extendsAt, Allows, Takes, Restored, Treated, Attempted, Rowed, reductionsAt, extensionsAt, furtherAt, Ends};
+ghost use Rattle.engine.specs.Nowhere.{Opening, Vain};
 
-// What a search goes by: how many words of the file are the body, and the bound.
+// What a search goes by: how many words of the file are the body, where the question begins, the bound, and whether positive leaves are restarted.
 pub struct Task {
     pub body: u32,
+    pub question: u32,
     pub bound: u32,
+    pub restarts: bool,
 }
 
-// A candidate of a leaf: the reference of an ancestor's literal, and its height; or where a literal is entered.
+// A candidate of a leaf: the reference of an ancestor's literal, and its height; where a literal is entered; or the restart.
 pub enum Move {
     Reduce(u32, u32),
     Enter(Scan),
+    Renew,
 }
 
 pub enum Ending {
@@ -70,6 +79,13 @@ fn take(file: &[u32], work: &mut [u32], task: Task, place: Place, candidate: Mov
             let offset = scan.at - start;
             let step = steps::encode(Step::Extension(scan.clauses - 1, scan.literals));
             tableau::extend(file, work, place, start, offset, step)
+        }
+        Move::Renew => {
+            let step = steps::encode(Step::Restart);
+            Taken {
+                meeting: Meeting::Made,
+                place: tableau::restart(file, work, place, task.question, step),
+            }
         }
     }
 }
@@ -148,6 +164,21 @@ fn reductions(
     without(Ending::Nothing, left)
 }
 
+// Whether nothing can come of an extension: first arguments clash, or it is the last that the bound allows and leads to a leaf that no reduction closes.
+fn in_vain(file: &[u32], work: &[u32], task: Task, place: Place, symbol: u32, scan: Scan) -> bool
+    requires { ⌜ Treats (now file) (now work) task place × (0 < place .head) × Allows (now file) (now work) task place (Move.Enter scan) × Opening (now file) (now work) (leafOf (now work) place) symbol ⌝ }
+    ensures { λ r. ⌜ (r ≡ true → Vain (now (file .entry)) (now (work .entry)) task place (Move.Enter scan)) ⌝ }
+{
+    if vain::clashes(file, scan.at, symbol) {
+        return true;
+    }
+    if work[memory::COPIES] != task.bound {
+        return false;
+    }
+    let start = scan.start;
+    vain::dead_end(file, work, place, start, scan.at - start)
+}
+
 // The extensions of the leftmost leaf, by clause, then literal.
 fn extensions(
     file: &[u32],
@@ -157,9 +188,10 @@ fn extensions(
     wanted: u32,
     tries: u32,
 ) -> Searched
-    requires { ⌜ Treats (now file) (now work) task place × (0 < place .head) × Wanted (now file) (now work) place wanted × (copiesOf (now work) ≤ task .bound) ⌝ }
+    requires { ⌜ Treats (now file) (now work) task place × (0 < place .head) × Wanted (now file) (now work) place wanted × (copiesOf (now work) ≤ task .bound) × (extendsAt (now file) (now work) task place ≡ true) ⌝ }
     ensures { λ r. ⌜ Rowed (now (file .entry)) (now (work .entry)) (now (work .exit)) task place tries r (extensionsAt (now (file .entry)) (now (work .entry)) task place) ⌝ }
 {
+    let symbol = vain::first_symbol(file, work, tableau::literal_of(work, place.head));
     let mut link = links::first(file, work, wanted);
     let mut left = tries;
     while link != 0 {
@@ -169,6 +201,10 @@ fn extensions(
         }
         let entry = notes::unpacked(work, literal);
         link = links::next(work, literal);
+        if in_vain(file, work, task, place, symbol, entry) {
+            left -= 1;
+            continue;
+        }
         let tried = attempt(file, work, task, place, Move::Enter(entry), left - 1);
         let ending = tried.ending;
         let Ending::Nothing = ending else {
@@ -179,7 +215,31 @@ fn extensions(
     without(Ending::Nothing, left)
 }
 
-// The leftmost leaf is treated: its reductions, then its extensions, unless the bound's are used.
+// After the reductions of the leftmost leaf: its restart or its extensions, unless the bound's are used.
+fn further(
+    file: &[u32],
+    work: &mut [u32],
+    task: Task,
+    place: Place,
+    word: u32,
+    tries: u32,
+) -> Searched
+    requires { ⌜ Treats (now file) (now work) task place × (0 < place .head) × (word ≡ wordAt (now file) (now work) (leafOf (now work) place)) ⌝ }
+    ensures { λ r. ⌜ Rowed (now (file .entry)) (now (work .entry)) (now (work .exit)) task place tries r (furtherAt (now (file .entry)) (now (work .entry)) task place) ⌝ }
+{
+    if task.bound < work[memory::COPIES] {
+        return without(Ending::Nothing, tries);
+    }
+    if !profile::restarts(task.restarts, word) {
+        return extensions(file, work, task, place, entries::other_sign(word), tries);
+    }
+    if tries == 0 {
+        return without(Ending::Out, tries);
+    }
+    attempt(file, work, task, place, Move::Renew, tries - 1)
+}
+
+// The leftmost leaf is treated: its reductions first.
 fn treat(file: &[u32], work: &mut [u32], task: Task, place: Place, left: u32) -> Searched
     requires { ⌜ Treats (now file) (now work) task place ⌝ }
     ensures { λ r. ⌜ Treated (now (file .entry)) (now (work .entry)) (now (work .exit)) task place left r ⌝ }
@@ -193,16 +253,12 @@ fn treat(file: &[u32], work: &mut [u32], task: Task, place: Place, left: u32) ->
         };
     }
     let word = memory::word_at(file, work, tableau::literal_of(work, head));
-    let wanted = entries::other_sign(word);
-    let reduced = reductions(file, work, task, place, wanted, left);
+    let reduced = reductions(file, work, task, place, entries::other_sign(word), left);
     let ending = reduced.ending;
     let Ending::Nothing = ending else {
         return reduced;
     };
-    if task.bound < work[memory::COPIES] {
-        return reduced;
-    }
-    extensions(file, work, task, place, wanted, reduced.left)
+    further(file, work, task, place, word, reduced.left)
 }
 
 // The literals of the body are noted and linked, unless nothing may be extended.
@@ -218,13 +274,24 @@ fn prepare(file: &[u32], work: &mut [u32], body: u32, bound: u32)
 }
 
 // A closed tableau for the question within the bound, if the budget lasts; its steps stand among the work words, and no variable is numbered yet.
-pub fn find(file: &[u32], work: &mut [u32], question: u32, bound: u32, budget: u32) -> Searched
-    requires { ⌜ (length (now work) ≡ 16384) × (judge (now file) .status ≡ 0) × (question ≡ judge (now file) .question) × (bound ≤ 32) ⌝ }
-    ensures { λ r. ⌜ Ends (r .ending) (now (file .entry)) (now (work .exit)) question bound budget r ⌝ }
+pub fn find(
+    file: &[u32],
+    work: &mut [u32],
+    question: u32,
+    conditions: Conditions,
+    budget: u32,
+) -> Searched
+    requires { ⌜ (length (now work) ≡ 16384) × (judge (now file) .status ≡ 0) × (question ≡ judge (now file) .question) × (conditions .bound ≤ 32) ⌝ }
+    ensures { λ r. ⌜ Ends (r .ending) (now (file .entry)) (now (work .exit)) question conditions budget r ⌝ }
 {
     let body = (file.len() - 4) as u32;
-    prepare(file, work, body, bound);
+    prepare(file, work, body, conditions.bound);
     let place = tableau::begin(file, work, question);
-    let task = Task { body, bound };
+    let task = Task {
+        body,
+        question,
+        bound: conditions.bound,
+        restarts: conditions.restarts,
+    };
     treat(file, work, task, place, budget)
 }

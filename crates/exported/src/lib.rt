@@ -11,7 +11,10 @@ ghost use mathlib.Core.Path.{_≡_};
 ghost use lib.ListN.{length};
 ghost use Rattle.hukolearu.specs.Door.{workAfter};
 ghost use Rattle.hukolearu.specs.Calls.{searchCall, searchWith, checkCall, checkWith, atFront};
+ghost use Rattle.seen.specs.Copying.{seenIn};
 ghost use Rattle.education.specs.Education.{educationSearch, educationCheck};
+ghost use Rattle.table.specs.File.{tableIn};
+ghost use Rattle.restart.specs.Restart.{searchOn, checkOn};
 ghost use Rattle.season.specs.Season.{seasonWith, reportOf, proofAfter, answerAfter, workLeft};
 ghost use Rattle.slim.specs.Call.{slimCall};
 ghost use Rattle.desk.specs.Desk.{deskSays, valuesOf};
@@ -82,6 +85,70 @@ pub extern "C" fn hukolearu_education_check(
     ensures { λ _. ⌜ now (work .exit) ≡ workAfter (now (work .entry)) ⌝ }
 {
     education::check_proof(file, bound, offered, answer, work)
+}
+
+#[no_mangle]
+pub extern "C" fn hukolearu_restart_search(
+    file: &[u32],
+    bound: u32,
+    budget: u32,
+    proof: &mut [u32],
+    answer: &mut [u32],
+    work: &mut [u32],
+) -> Outcome
+    ensures { λ r. ⌜ r ≡ searchOn tableIn (searchWith (now (file .entry)) bound budget (now (proof .entry)) (now (answer .entry)) (now (work .entry))) .outcome ⌝ }
+    ensures { λ _. ⌜ now (proof .exit) ≡ atFront (searchOn tableIn (searchWith (now (file .entry)) bound budget (now (proof .entry)) (now (answer .entry)) (now (work .entry))) .proof) (now (proof .entry)) ⌝ }
+    ensures { λ _. ⌜ now (answer .exit) ≡ atFront (searchOn tableIn (searchWith (now (file .entry)) bound budget (now (proof .entry)) (now (answer .entry)) (now (work .entry))) .answer) (now (answer .entry)) ⌝ }
+    ensures { λ _. ⌜ now (work .exit) ≡ workAfter (now (work .entry)) ⌝ }
+{
+    restart::calls::search(file, bound, budget, proof, answer, work)
+}
+
+#[no_mangle]
+pub extern "C" fn hukolearu_restart_check(
+    file: &[u32],
+    bound: u32,
+    offered: &[u32],
+    answer: &mut [u32],
+    work: &mut [u32],
+) -> Outcome
+    ensures { λ r. ⌜ r ≡ checkOn tableIn (checkWith (now (file .entry)) bound (now (offered .entry)) (now (answer .entry)) (now (work .entry))) .outcome ⌝ }
+    ensures { λ _. ⌜ now (answer .exit) ≡ atFront (checkOn tableIn (checkWith (now (file .entry)) bound (now (offered .entry)) (now (answer .entry)) (now (work .entry))) .answer) (now (answer .entry)) ⌝ }
+    ensures { λ _. ⌜ now (work .exit) ≡ workAfter (now (work .entry)) ⌝ }
+{
+    restart::calls::check_proof(file, bound, offered, answer, work)
+}
+
+#[no_mangle]
+pub extern "C" fn hukolearu_restart_education_search(
+    file: &[u32],
+    bound: u32,
+    budget: u32,
+    proof: &mut [u32],
+    answer: &mut [u32],
+    work: &mut [u32],
+) -> Outcome
+    ensures { λ r. ⌜ r ≡ searchOn seenIn (searchWith (now (file .entry)) bound budget (now (proof .entry)) (now (answer .entry)) (now (work .entry))) .outcome ⌝ }
+    ensures { λ _. ⌜ now (proof .exit) ≡ atFront (searchOn seenIn (searchWith (now (file .entry)) bound budget (now (proof .entry)) (now (answer .entry)) (now (work .entry))) .proof) (now (proof .entry)) ⌝ }
+    ensures { λ _. ⌜ now (answer .exit) ≡ atFront (searchOn seenIn (searchWith (now (file .entry)) bound budget (now (proof .entry)) (now (answer .entry)) (now (work .entry))) .answer) (now (answer .entry)) ⌝ }
+    ensures { λ _. ⌜ now (work .exit) ≡ workAfter (now (work .entry)) ⌝ }
+{
+    restart::calls::education_search(file, bound, budget, proof, answer, work)
+}
+
+#[no_mangle]
+pub extern "C" fn hukolearu_restart_education_check(
+    file: &[u32],
+    bound: u32,
+    offered: &[u32],
+    answer: &mut [u32],
+    work: &mut [u32],
+) -> Outcome
+    ensures { λ r. ⌜ r ≡ checkOn seenIn (checkWith (now (file .entry)) bound (now (offered .entry)) (now (answer .entry)) (now (work .entry))) .outcome ⌝ }
+    ensures { λ _. ⌜ now (answer .exit) ≡ atFront (checkOn seenIn (checkWith (now (file .entry)) bound (now (offered .entry)) (now (answer .entry)) (now (work .entry))) .answer) (now (answer .entry)) ⌝ }
+    ensures { λ _. ⌜ now (work .exit) ≡ workAfter (now (work .entry)) ⌝ }
+{
+    restart::calls::education_check(file, bound, offered, answer, work)
 }
 
 #[no_mangle]

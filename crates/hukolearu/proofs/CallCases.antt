@@ -5,12 +5,12 @@ use Rattle.rules.specs.Growing.{at-end, kept, added, along, moved}
 use Rattle.rules.specs.Locality.{renumbered}
 use Rattle.rules.proofs.Cases.{played}
 use Rattle.hukolearu.specs.Door.{firstFault, behind}
-use Rattle.hukolearu.specs.Calls.{answered, checkGiven, foundGiven, searchGiven, searchCall, checkCall}
+use Rattle.hukolearu.specs.Calls.{answered, checkGiven, foundGiven, searchGiven, searchBy, searchCall, checkBy, checkCall}
 use Rattle.hukolearu.specs.Cases as Cases
 use Rattle.hukolearu.specs.ReasonCases.{ReasonCases}
 
 unfoldable pub called : Unit {0}
-unfolding played firstFault behind answered checkGiven foundGiven searchGiven searchCall checkCall
+unfolding played firstFault behind answered checkGiven foundGiven searchGiven searchBy searchCall checkBy checkCall
 called = tt
 
 pub starred-cases : Cases.StarredCases

@@ -3,19 +3,19 @@ use mathlib.Core.Bool.{true}
 use mathlib.Core.List.{List, [], _∷_, map}
 use mathlib.Core.Logic.{_↔_, _⊎_, inl, inr, _≢_}
 use mathlib.Core.Option.{Option, none, some}
-use mathlib.Core.Path.{_≡_, refl, sym, ap, _∙_, subst}
+use mathlib.Core.Path.{_≡_, refl, sym, ap, ap₂, _∙_, subst}
 use Prim.Native.Nat.{ℕ, _≤_, _<_}
 use native.Mathlib.Omega.{arith}
 use borrow.Author.Tests.{le-leb, lt-ltb}
 use lib.ListN.{length, length-map}
-use Rattle.words.specs.Steps.{stepOf, stepWord, wellFormed}
-use Rattle.words.specs.declared.Step.the-variants.{Reduction, Extension, Malformed}
+use Rattle.words.specs.Steps.{stepWord, wellFormed}
+use Rattle.words.specs.declared.Step.the-variants.{Reduction, Extension, Restart, Malformed}
 use Rattle.words.proofs.Roundtrip.{decode-encode}
 use Rattle.words.specs.declared.Step.{Step}
 use Rattle.table.specs.File.{tableIn}
 use Rattle.table.specs.Limits.{Within}
 use Rattle.table.specs.Syntax.{Table, allClauses}
-use Rattle.rules.specs.Setting.{Profile, everyLeaf, Setting, over}
+use Rattle.rules.specs.Setting.{Profile, restarting, readStep, readSteps, Setting, everyLeaf, over}
 use Rattle.rules.specs.Tableau.{Tableau, start, Closed}
 use Rattle.rules.specs.Order.{Ending, found, nothing, Searched, First}
 use Rattle.rules.specs.Truth.{Interpretation, AllNegative, AllHold, TrueAnswer}
@@ -55,18 +55,19 @@ one-check S offered room g h = one-check-outcome S offered room
 
 -- the steps of a closed tableau are well formed, so their words say them
 module _ (S : Setting) (few : length (allClauses (S .table)) ≤ 512) (low : S .bound ≤ 32) where
-  formed : (s : Step) → InRange S s → wellFormed s ≡ true
+  formed : (s : Step) → InRange S s → wellFormed (restarting (S .profile)) s ≡ true
   unfolding wellFormed
   formed (Reduction height) r = rw (le-leb 1 height (omega arith), le-leb height 63 (omega arith))
   formed (Extension clause literal) r = rw (lt-ltb clause 512 (omega arith), lt-ltb literal 8 (omega arith))
+  formed Restart r = r
   formed Malformed r = absurd r
 
-  said-back : (ss : List Step) → All (InRange S) ss → map stepOf (map stepWord ss) ≡ ss
+  said-back : (ss : List Step) → All (InRange S) ss → readSteps (S .profile) (map stepWord ss) ≡ ss
   unfolding All
   said-back [] r = refl
-  said-back (s ∷ ss) r = rw (decode-encode s (formed s (r .0)), said-back ss (r .1))
+  said-back (s ∷ ss) r = ap₂ _∷_ (decode-encode (restarting (S .profile)) s (formed s (r .0))) (said-back ss (r .1))
 
-pub proof-words : (S : Setting) → Within (S .table) → S .bound ≤ 32 → (steps : List Step) → Closed S steps → map stepOf (map stepWord steps) ≡ steps
+pub proof-words : (S : Setting) → Within (S .table) → S .bound ≤ 32 → (steps : List Step) → Closed S steps → readSteps (S .profile) (map stepWord steps) ≡ steps
 proof-words S limits low steps c = said-back S (limits .few) low steps (step-numbers S (short-clauses (allClauses (S .table)) (limits .clauses)) c)
 
 -- what the outcomes of a search tell, over any setting
@@ -99,7 +100,7 @@ module _ (S : Setting) where
     none-said (found-too-long {steps} s l c a f) n = (λ z. absurd (omega arith), λ h. absurd (h steps c))
 
     pub found-said : Within (S .table) → S .bound ≤ 32 → {g : Given} → SearchSays S budget room g → g .outcome .status ≡ 0
-        → First S (map stepOf (g .proof))
+        → First S (readSteps (S .profile) (g .proof))
     found-said limits low (ran-out s l) z = absurd (omega arith)
     found-said limits low (none-found s l) z = absurd (omega arith)
     found-said limits low (found-fitting {steps} s l c a f) z = rw (proof-words S limits low steps c) (first s)
@@ -143,15 +144,15 @@ unaccepted leaves-open (inl z) = omega arith
 unaccepted leaves-open (inr z) = omega arith
 
 module _ (S : Setting) (offered : List ℕ) where
-  pub closed-of : {x : Tableau} → Checks S (start (S .table)) 0 (map stepOf offered) (accepted x) → Closed S (map stepOf offered)
+  pub closed-of : {x : Tableau} → Checks S (start (S .table)) 0 (readSteps (S .profile) offered) (accepted x) → Closed S (readSteps (S .profile) offered)
   closed-of {x} d = let a = accepted-closed S d in record { tableau = x; made = a .0; no-leaf-open = a .1; unifiable = a .2 }
 
   module _ {room : ℕ} where
     pub accepted-said : {g : Given} → CheckSays S offered room g
-        → ((g .outcome .status ≡ 0) ⊎ (g .outcome .status ≡ 16)) ↔ Closed S (map stepOf offered)
+        → ((g .outcome .status ≡ 0) ⊎ (g .outcome .status ≡ 16)) ↔ Closed S (readSteps (S .profile) offered)
     accepted-said (not-closed {why} {place} d) = (
       λ z. absurd (unaccepted why z),
-      λ c. let same = one-check-verdict S (map stepOf offered) (refused why place) (accepted (c .tableau)) d (closed-accepted S c) in
+      λ c. let same = one-check-verdict S (readSteps (S .profile) offered) (refused why place) (accepted (c .tableau)) d (closed-accepted S c) in
           let z : _≡_ {A = ℕ} 0 1 = cc in absurd (omega arith),
     )
     accepted-said (closed-fitting d a f) = (λ _. closed-of d, λ _. inl refl)
@@ -219,13 +220,13 @@ never-none a b ok ok′ grown l once =
 
 -- a proof's words, its clause numbers moved along
 module _ (rules : Profile) {t u : Table} (grown : Larger t u) (few : length (allClauses u) ≤ 512) {bound : ℕ} (low : bound ≤ 32) where
-  words-moved : (ws : List ℕ) → All (InRange (over rules u bound)) (map (moved grown) (map stepOf ws))
-      → map stepOf (map (Demands.movedWord grown) ws) ≡ map (moved grown) (map stepOf ws)
+  words-moved : (ws : List ℕ) → All (InRange (over rules u bound)) (map (moved grown) (readSteps rules ws))
+      → readSteps rules (map (Demands.movedBy rules grown) ws) ≡ map (moved grown) (readSteps rules ws)
   unfolding All
   words-moved [] r = refl
   words-moved (w ∷ ws) r =
-      let s = moved grown (stepOf w) in
-      rw (decode-encode s (formed (over rules u bound) few low s (r .0)), words-moved ws (r .1))
+      let s = moved grown (readStep rules w) in
+      ap₂ _∷_ (decode-encode (restarting rules) s (formed (over rules u bound) few low s (r .0))) (words-moved ws (r .1))
 
 answers-again : {t u : Table} {x y : Tableau} {count : ℕ} {words : List ℕ} → x ≡ y → t .question ≡ u .question
     → Answers t x count words → Answers u y count words
@@ -238,7 +239,7 @@ answers-again {t} {u} {x} {y} e same a = record {
 
 module _ (rules : Profile) {t u : Table} (grown : Larger t u) (limits : Within u) {bound higher : ℕ} (low : higher ≤ 32) (l : bound ≤ higher) (offered : List ℕ) where
   pub said-again : {room room′ : ℕ} {g : Given} → room ≤ room′ → CheckSays (over rules t bound) offered room g → g .outcome .status ≡ 0
-      → CheckSays (over rules u higher) (map (Demands.movedWord grown) offered) room′ g
+      → CheckSays (over rules u higher) (map (Demands.movedBy rules grown) offered) room′ g
   unfolding closed-of
   said-again more (not-closed {why} d) z = absurd (unaccepted why (inl z))
   said-again more (closed-too-long d a f) z = absurd (omega arith)
@@ -246,14 +247,14 @@ module _ (rules : Profile) {t u : Table} (grown : Larger t u) (limits : Within u
       let c = closed-of (over rules t bound) offered d in
       let g = larger-table grown c in
       let h = larger-bound l (g .0) in
-      let same : map stepOf (map (Demands.movedWord grown) offered) ≡ map (moved grown) (map stepOf offered) =
+      let same : readSteps rules (map (Demands.movedBy rules grown) offered) ≡ map (moved grown) (readSteps rules offered) =
       words-moved rules grown (limits .few) low offered (step-numbers (over rules u higher) (short-clauses (allClauses u) (limits .clauses)) (h .0)) in
       let e : x ≡ h .0 .tableau = sym (h .1 ∙ g .1) in
       let b : Answers u (h .0 .tableau) count words =
       answers-again e (grown .question) a in
-      let k : Checks (over rules u higher) (start u) 0 (map stepOf (map (Demands.movedWord grown) offered)) (accepted (h .0 .tableau)) =
+      let k : Checks (over rules u higher) (start u) 0 (readSteps rules (map (Demands.movedBy rules grown) offered)) (accepted (h .0 .tableau)) =
       rw same (closed-accepted (over rules u higher) (h .0)) in
-      rw (← length-map offered (Demands.movedWord grown)) (closed-fitting k b (omega arith))
+      rw (← length-map offered (Demands.movedBy rules grown)) (closed-fitting k b (omega arith))
 
 pub accepted-once-more : Demands.AcceptedOnceMore
 accepted-once-more a b ok ok′ grown l more same z =

@@ -8,17 +8,17 @@ use borrow.Author.Tests.{le-leb, lt-leb, leb-true, not-true, not-false}
 use lib.Dec.{leb}
 use lib.ListN.{length, take, drop, getD}
 use lib.Seq.{length-take-le, drop-cons}
-use Rattle.words.specs.Steps.{stepOf}
 use Rattle.table.specs.File.{judge, tableIn}
-use Rattle.rules.specs.Setting.{base}
+use Rattle.rules.specs.Setting.{Profile, everyLeaf, profileOf, longestProof, readSteps, over}
 use Rattle.rules.specs.Answer.{answerWords, perCopy, disjuncts}
 use Rattle.rules.specs.Machinery.Unify.{solution}
 use Rattle.rules.specs.Substitution.{Variable}
 use Rattle.table.specs.Syntax.{Literal}
 use Rattle.rules.specs.Machinery.Play.{Play, check, searchFor, disjunctsOf}
 use Rattle.rules.specs.Machinery.Play as Play
-use Rattle.hukolearu.specs.Calls.{Given, refused, granted, roomOf, answered, checkGiven, foundGiven, searchGiven, refusedBy, SearchAsked, searchInputs, searchSetting, searchCall, CheckAsked, checkInputs, checkSetting, checkCall, atFront}
-use Rattle.engine.specs.Ended.{Ended}
+use Rattle.hukolearu.specs.Calls.{Given, refused, granted, roomOf, answered, checkGiven, foundGiven, searchGiven, refusedBy, SearchAsked, inputsBy, searchBy, searchCall, CheckAsked, checkInputs, checkBy, checkCall, atFront}
+use Rattle.engine.specs.Ended.{settingFor, Ended}
+use Rattle.engine.specs.declared.Conditions.{Conditions}
 use Rattle.engine.specs.Writing.{wordsOf, disjunctsKept, answerHeld, Counted, Answered}
 use Rattle.engine.specs.Repeats.{disjunctsHeld, Chose}
 use Rattle.engine.specs.Searching.{Ends}
@@ -38,8 +38,7 @@ use Rattle.hukolearu.specs.Door.{Admitted, entryOf}
 use Rattle.hukolearu.specs.declared.door.Entry.{Entry}
 use Rattle.hukolearu.specs.declared.door.Entry.the-variants.{Open as OpenDoor, Refused as RefusedAtDoor}
 use Rattle.hukolearu.specs.declared.door.Inputs.{Inputs}
-use Rattle.hukolearu.proofs.DoorLaws.{question-stands, opened, shut}
-use Rattle.hukolearu.proofs.Says.{search-accepted, check-accepted}
+use Rattle.hukolearu.proofs.DoorLaws.{question-stands, opened, shut, inside}
 
 -- a refusal changes neither buffer
 pub refuses : {g : Given} {status place tries : ℕ} → g ≡ refused status place tries → {r : Outcome} (proof answer : List ℕ)
@@ -74,10 +73,23 @@ module _ (f : List ℕ) (judged : judge f .status ≡ 0) {question : ℕ} (asked
     unfolding answered held
     held-answered steps proof tries room = rw (← same-answer, ← same-count)
 
+-- no profile has longer proofs than these
+longest-of-all : (restarts : Bool) → longestProof (profileOf restarts) ≤ 231
+longest-of-all false = omega arith
+longest-of-all true = omega arith
+
+pub longest-restarted : {restarts : Bool} → restarts ≡ true → 231 ≡ longestProof (profileOf restarts)
+longest-restarted e = rw e
+
+pub longest-base : {restarts : Bool} → restarts ≡ false → 199 ≡ longestProof (profileOf restarts)
+longest-base e = rw e
+
+pub ruleset longest-laws = (longest-restarted, longest-base)
+
 -- the search: none within the bound, out of tries, or found
-module _ (f m : List ℕ) (question bound budget : ℕ) (ended : Searched) (h : Ends (ended .ending) f m question bound budget ended) where
-  as-ended : {e : Ending} → ended .ending ≡ e → Ends e f m question bound budget ended
-  as-ended e = subst (λ (x : Ending). Ends x f m question bound budget ended) e h
+module _ (f m : List ℕ) (question : ℕ) (conditions : Conditions) (budget : ℕ) (ended : Searched) (h : Ends (ended .ending) f m question conditions budget ended) where
+  as-ended : {e : Ending} → ended .ending ≡ e → Ends e f m question conditions budget ended
+  as-ended e = subst (λ (x : Ending). Ends x f m question conditions budget ended) e h
 
   pub nothing-left : ended .ending ≡ Nothing → ended .left ≤ budget
   nothing-left e = as-ended e .1
@@ -85,23 +97,26 @@ module _ (f m : List ℕ) (question bound budget : ℕ) (ended : Searched) (h : 
   pub found-left : ended .ending ≡ AFound → ended .left ≤ budget
   found-left e = as-ended e .within
 
-  pub found-few : ended .ending ≡ AFound → ended .steps ≤ 199
-  found-few e = as-ended e .few
+  pub found-few : ended .ending ≡ AFound → ended .steps ≤ 231
+  found-few e = omega (arith, as-ended e .few, longest-of-all (conditions .restarts))
 
-  pub found-answerable : {m₀ : List ℕ} → Passed f m₀ question bound → ended .ending ≡ AFound → Answerable f m
+  pub found-room : {room : ℕ} → longestProof (profileOf (conditions .restarts)) ≤ room → ended .ending ≡ AFound → ended .steps ≤ room
+  found-room l e = omega (arith, as-ended e .few, l)
+
+  pub found-answerable : {m₀ : List ℕ} → Passed f m₀ question (conditions .bound) → ended .ending ≡ AFound → Answerable f m
   found-answerable p e = answerable f (p .judged) (p .asked) (as-ended e .ended)
 
   pub nothing-given : (room : ℕ) → ended .ending ≡ Nothing
-      → searchGiven (base (tableIn f) bound) room (searchFor (base (tableIn f) bound) budget) ≡ refused 10 0 (budget - ended .left)
+      → searchGiven (settingFor f conditions) room (searchFor (settingFor f conditions) budget) ≡ refused 10 0 (budget - ended .left)
   unfolding searchGiven
   nothing-given room e = rw (as-ended e .0)
 
-  pub out-given : (room : ℕ) → ended .ending ≡ Out → searchGiven (base (tableIn f) bound) room (searchFor (base (tableIn f) bound) budget) ≡ refused 11 0 budget
+  pub out-given : (room : ℕ) → ended .ending ≡ Out → searchGiven (settingFor f conditions) room (searchFor (settingFor f conditions) budget) ≡ refused 11 0 budget
   unfolding searchGiven
   out-given room e = rw (as-ended e)
 
-  pub found-given : {m₀ : List ℕ} (room : ℕ) → Passed f m₀ question bound → ended .ending ≡ AFound
-      → searchGiven (base (tableIn f) bound) room (searchFor (base (tableIn f) bound) budget)
+  pub found-given : {m₀ : List ℕ} (room : ℕ) → Passed f m₀ question (conditions .bound) → ended .ending ≡ AFound
+      → searchGiven (settingFor f conditions) room (searchFor (settingFor f conditions) budget)
       ≡ held f m question (ended .steps) (take (ended .steps) (drop 1984 m)) (budget - ended .left) room
   unfolding searchGiven foundGiven
   found-given room p e =
@@ -110,52 +125,52 @@ module _ (f m : List ℕ) (question bound budget : ℕ) (ended : Searched) (h : 
       (held-answered f (p .judged) (p .asked) (x .ended) (ended .steps) (take (ended .steps) (drop 1984 m)) (budget - ended .left) room)
 
   -- by the enum's own definition
-  pub search-by-ending : {m₀ : List ℕ} (room : ℕ) → Passed f m₀ question bound
-      → searchGiven (base (tableIn f) bound) room (searchFor (base (tableIn f) bound) budget)
+  pub search-by-ending : {m₀ : List ℕ} (room : ℕ) → Passed f m₀ question (conditions .bound)
+      → searchGiven (settingFor f conditions) room (searchFor (settingFor f conditions) budget)
       ≡ byEnding (ended .ending) budget (ended .left)
       (held f m question (ended .steps) (take (ended .steps) (drop 1984 m)) (budget - ended .left) room)
   search-by-ending room p = go (ended .ending) refl
     where
       go : (e : Ending) → ended .ending ≡ e
-          → searchGiven (base (tableIn f) bound) room (searchFor (base (tableIn f) bound) budget)
+          → searchGiven (settingFor f conditions) room (searchFor (settingFor f conditions) budget)
           ≡ byEnding e budget (ended .left) (held f m question (ended .steps) (take (ended .steps) (drop 1984 m)) (budget - ended .left) room)
       go AFound e = found-given room p e
       go Nothing e = nothing-given room e
       go Out e = out-given room e
 
 pub ruleset search-laws =
-    (nothing-left, found-left, found-few, found-answerable, refuses, tells, nothing-given, out-given, found-given)
+    (nothing-left, found-left, found-few, found-room, found-answerable, refuses, tells, nothing-given, out-given, found-given)
 
 -- the checker: refused at a step, or accepted
-stopped-given : (f : List ℕ) (bound : ℕ) (offered : List ℕ) {status place : ℕ} (room : ℕ) → RefusedAs f bound offered status place
-    → checkGiven (tableIn f) (length offered) room (check (base (tableIn f) bound) (map stepOf offered)) ≡ refused status place 0
+stopped-given : (f : List ℕ) (conditions : Conditions) (offered : List ℕ) {status place : ℕ} (room : ℕ) → RefusedAs f conditions offered status place
+    → checkGiven (tableIn f) (length offered) room (check (settingFor f conditions) (readSteps (profileOf (conditions .restarts)) offered)) ≡ refused status place 0
 unfolding checkGiven
-stopped-given f bound offered room x = rw (x .stops, x .number)
+stopped-given f conditions offered room x = rw (x .stops, x .number)
 
-module _ (f m : List ℕ) (question bound : ℕ) (offered : List ℕ) {v : Verdict} (h : Decided f m question bound offered v) where
-  as-decided : {w : Verdict} → v ≡ w → Decided f m question bound offered w
-  as-decided e = subst (λ (x : Verdict). Decided f m question bound offered x) e h
+module _ (f m : List ℕ) (question : ℕ) (conditions : Conditions) (offered : List ℕ) {v : Verdict} (h : Decided f m question conditions offered v) where
+  as-decided : {w : Verdict} → v ≡ w → Decided f m question conditions offered w
+  as-decided e = subst (λ (x : Verdict). Decided f m question conditions offered x) e h
 
-  pub accepted-answerable : {m₀ : List ℕ} {steps : ℕ} → Passed f m₀ question bound → v ≡ Accepted steps → Answerable f m
+  pub accepted-answerable : {m₀ : List ℕ} {steps : ℕ} → Passed f m₀ question (conditions .bound) → v ≡ Accepted steps → Answerable f m
   accepted-answerable p e = answerable f (p .judged) (p .asked) (as-decided e .ended)
 
   pub refused-given : {status place : ℕ} (room : ℕ) → v ≡ Refused status place
-      → checkGiven (tableIn f) (length offered) room (check (base (tableIn f) bound) (map stepOf offered)) ≡ refused status place 0
-  refused-given room e = stopped-given f bound offered room (as-decided e)
+      → checkGiven (tableIn f) (length offered) room (check (settingFor f conditions) (readSteps (profileOf (conditions .restarts)) offered)) ≡ refused status place 0
+  refused-given room e = stopped-given f conditions offered room (as-decided e)
 
-  pub accepted-given : {m₀ : List ℕ} {steps : ℕ} (room : ℕ) → Passed f m₀ question bound → v ≡ Accepted steps
-      → checkGiven (tableIn f) (length offered) room (check (base (tableIn f) bound) (map stepOf offered)) ≡ held f m question steps [] 0 room
+  pub accepted-given : {m₀ : List ℕ} {steps : ℕ} (room : ℕ) → Passed f m₀ question (conditions .bound) → v ≡ Accepted steps
+      → checkGiven (tableIn f) (length offered) room (check (settingFor f conditions) (readSteps (profileOf (conditions .restarts)) offered)) ≡ held f m question steps [] 0 room
   unfolding checkGiven
   accepted-given {steps = steps} room p e =
       let x = as-decided e in
       rw (x .passes, ← x .count) (held-answered f (p .judged) (p .asked) (x .ended) steps [] 0 room)
 
-pub check-by-verdict : (f m : List ℕ) (question bound : ℕ) (offered : List ℕ) (v : Verdict) → Decided f m question bound offered v
-    → {m₀ : List ℕ} (room : ℕ) → Passed f m₀ question bound
-    → checkGiven (tableIn f) (length offered) room (check (base (tableIn f) bound) (map stepOf offered))
+pub check-by-verdict : (f m : List ℕ) (question : ℕ) (conditions : Conditions) (offered : List ℕ) (v : Verdict) → Decided f m question conditions offered v
+    → {m₀ : List ℕ} (room : ℕ) → Passed f m₀ question (conditions .bound)
+    → checkGiven (tableIn f) (length offered) room (check (settingFor f conditions) (readSteps (profileOf (conditions .restarts)) offered))
     ≡ byVerdict v (λ (steps : ℕ). held f m question steps [] 0 room)
-check-by-verdict f m question bound offered (Accepted steps) h room p = accepted-given f m question bound offered h room p refl
-check-by-verdict f m question bound offered (Refused status place) h room p = refused-given f m question bound offered h room refl
+check-by-verdict f m question conditions offered (Accepted steps) h room p = accepted-given f m question conditions offered h room p refl
+check-by-verdict f m question conditions offered (Refused status place) h room p = refused-given f m question conditions offered h room refl
 
 pub ruleset check-laws = (accepted-answerable, refuses, tells, refused-given, accepted-given)
 
@@ -184,7 +199,7 @@ module _ {f m m′ : List ℕ} {question room : ℕ} {fits : Bool} (h : Fits f m
   fit-told steps tries words proof n t e = rw (held-fitting steps words tries n) (record { numbers = t .numbers; steps = e; words = t .words })
 
   -- the steps stand where they stood
-  pub found-told : {r : Outcome} (steps tries : ℕ) (proof : List ℕ) {proof′ answer answer′ : List ℕ} → Answerable f m → steps ≤ 199 → not fits ≡ false
+  pub found-told : {r : Outcome} (steps tries : ℕ) (proof : List ℕ) {proof′ answer answer′ : List ℕ} → Answerable f m → steps ≤ 231 → not fits ≡ false
       → Told (granted steps [] (length (disjunctsKept f m′)) (answerHeld f m′) tries) r [] [] answer answer′
       → proof′ ≡ atFront (take steps (drop 1984 m′)) proof → Told (held f m question steps (take steps (drop 1984 m)) tries room) r proof proof′ answer answer′
   found-told steps tries proof a few n t e =
@@ -245,22 +260,33 @@ pub all-passed : {f : List ℕ} {i : Inputs} (w : List ℕ) {question : ℕ} →
     → Passed f (take 16384 w) question (i .bound)
 all-passed w a asked enough = record { room = length-take-le 16384 w (omega arith); judged = a .good-file; asked = asked; low = a .low-bound }
 
--- what a call tells by what it learns at the door
-module _ (a : SearchAsked) {entry : Entry} (says : entry ≡ entryOf (a .file) (searchInputs a)) where
-  pub search-refused : {status place : ℕ} → entry ≡ RefusedAtDoor status place → searchCall a ≡ refused status place 0
-  unfolding searchCall
-  search-refused e = shut (a .file) (searchInputs a) says e refusedBy _
+-- what a call tells by what it learns at the door, by any profile's rules
+module _ (rules : Profile) (a : SearchAsked) {entry : Entry} (says : entry ≡ entryOf (a .file) (inputsBy rules a)) where
+  pub search-refused : {status place : ℕ} → entry ≡ RefusedAtDoor status place → searchBy rules a ≡ refused status place 0
+  unfolding searchBy
+  search-refused e = shut (a .file) (inputsBy rules a) says e refusedBy _
 
   pub search-admitted : {question : ℕ} → entry ≡ OpenDoor question
-      → searchCall a ≡ searchGiven (searchSetting a) (a .answerRoom) (searchFor (searchSetting a) (a .budget))
-  search-admitted e = search-accepted a (opened (a .file) (searchInputs a) says e)
+      → searchBy rules a ≡ searchGiven (over rules (tableIn (a .file)) (a .bound)) (a .answerRoom) (searchFor (over rules (tableIn (a .file)) (a .bound)) (a .budget))
+  unfolding searchBy
+  search-admitted e = inside (opened (a .file) (inputsBy rules a) says e) refusedBy _
 
-module _ (a : CheckAsked) {entry : Entry} (says : entry ≡ entryOf (a .file) (checkInputs a)) where
-  pub check-refused : {status place : ℕ} → entry ≡ RefusedAtDoor status place → checkCall a ≡ refused status place 0
-  unfolding checkCall
+module _ (rules : Profile) (a : CheckAsked) {entry : Entry} (says : entry ≡ entryOf (a .file) (checkInputs a)) where
+  pub check-refused : {status place : ℕ} → entry ≡ RefusedAtDoor status place → checkBy rules a ≡ refused status place 0
+  unfolding checkBy
   check-refused e = shut (a .file) (checkInputs a) says e refusedBy _
 
   pub check-admitted : {question : ℕ} → entry ≡ OpenDoor question
-      → checkCall a
-      ≡ checkGiven (tableIn (a .file)) (length (a .offered)) (a .answerRoom) (check (checkSetting a) (map stepOf (a .offered)))
-  check-admitted e = check-accepted a (opened (a .file) (checkInputs a) says e)
+      → checkBy rules a
+      ≡ checkGiven (tableIn (a .file)) (length (a .offered)) (a .answerRoom) (check (over rules (tableIn (a .file)) (a .bound)) (readSteps rules (a .offered)))
+  unfolding checkBy
+  check-admitted e = inside (opened (a .file) (checkInputs a) says e) refusedBy _
+
+-- by document 01's
+pub base-search : (a : SearchAsked) → searchBy everyLeaf a ≡ searchCall a
+unfolding searchBy searchCall
+base-search a = refl
+
+pub base-check : (a : CheckAsked) → checkBy everyLeaf a ≡ checkCall a
+unfolding checkBy checkCall
+base-check a = refl

@@ -4,12 +4,11 @@ use mathlib.Core.Path.{_≡_, sym, ap, _∙_}
 use Prim.Native.Nat.{ℕ, _≤_}
 use native.Mathlib.Omega.{arith}
 use lib.ListN.{length}
-use Rattle.words.specs.Steps.{stepOf}
 use Rattle.table.specs.File.{tableIn}
 use Rattle.table.specs.Limits.{Within}
 use Rattle.table.specs.Syntax.{Table}
 use Rattle.table.proofs.AcceptedTable.{accepted-within}
-use Rattle.rules.specs.Setting.{Profile, everyLeaf}
+use Rattle.rules.specs.Setting.{Profile, everyLeaf, readSteps}
 use Rattle.rules.specs.Truth.{AllNegative}
 use Rattle.rules.specs.Growing.{moved}
 use Rattle.rules.specs.Machinery.Play.{check, searchFor}
@@ -55,7 +54,7 @@ module _ (profile : Profile) (seen : List ℕ → Table) where
       (within : (a : CheckAsked) → accepted a → Within (seen (a .file)))
       (low : (a : CheckAsked) → accepted a → a .bound ≤ 32)
       (negative : (a : CheckAsked) → accepted a → AllNegative (seen (a .file) .question .literals))
-      (gives : (a : CheckAsked) → accepted a → call a ≡ checkGiven (seen (a .file)) (length (a .offered)) (a .answerRoom) (check (checkRules profile seen a) (map stepOf (a .offered)))) where
+      (gives : (a : CheckAsked) → accepted a → call a ≡ checkGiven (seen (a .file)) (length (a .offered)) (a .answerRoom) (check (checkRules profile seen a) (readSteps profile (a .offered)))) where
     check-says : (a : CheckAsked) → accepted a → CheckSays (checkRules profile seen a) (a .offered) (roomOf (a .answerRoom)) (call a)
     check-says a ok = rw (gives a ok) (check-given (checkRules profile seen a) (a .offered) (a .answerRoom))
 

@@ -13,7 +13,7 @@ use Rattle.words.specs.Steps.{stepOf, stepWord}
 use Rattle.words.specs.declared.Step.{Step}
 use Rattle.table.specs.Syntax.{Table}
 use Rattle.table.specs.File.{tableIn}
-use Rattle.rules.specs.Setting.{Setting}
+use Rattle.rules.specs.Setting.{readSteps, Setting}
 use Rattle.rules.specs.Tableau.{Tableau, start, Closed}
 use Rattle.rules.specs.Order.{Ending, found, nothing, Searched}
 use Rattle.rules.specs.Verdict.{Refusal, statusOf, CheckVerdict, accepted, refused, Checks, SearchVerdict, finds, finds-none, runs-out, ended, Answers}
@@ -88,7 +88,7 @@ module _ (S : Setting) (budget room : ℕ) where
 
 -- the checker
 module _ (S : Setting) (offered : List ℕ) (room : ℕ) where
-  check-said : (k : Checking) → check S (map stepOf offered) ≡ k
+  check-said : (k : Checking) → check S (readSteps (S .profile) offered) ≡ k
       → CheckSays S offered (roomOf room) (checkGiven (S .table) (length offered) room k)
   unfolding checkGiven checked
   check-said (stopped why place) e = not-closed (rw e at (checker-follows-the-rules S offered))
@@ -96,13 +96,13 @@ module _ (S : Setting) (offered : List ℕ) (room : ℕ) where
     where
       go : Dec (roomOf room < length (answerOf (S .table) p)) → CheckSays S offered (roomOf room) (answered (S .table) (length offered) [] 0 room p)
       go (yes l) = rw (too-long (S .table) (length offered) [] 0 room p l)
-          (closed-too-long (rw e at (checker-follows-the-rules S offered)) (accepted-has-answer S (map stepOf offered) p e) l)
+          (closed-too-long (rw e at (checker-follows-the-rules S offered)) (accepted-has-answer S (readSteps (S .profile) offered) p e) l)
       go (no n) = let l : length (answerOf (S .table) p) ≤ roomOf room = omega arith in
           rw (fitting (S .table) (length offered) [] 0 room p l)
-          (closed-fitting (rw e at (checker-follows-the-rules S offered)) (accepted-has-answer S (map stepOf offered) p e) l)
+          (closed-fitting (rw e at (checker-follows-the-rules S offered)) (accepted-has-answer S (readSteps (S .profile) offered) p e) l)
 
-  pub check-given : CheckSays S offered (roomOf room) (checkGiven (S .table) (length offered) room (check S (map stepOf offered)))
-  check-given = check-said (check S (map stepOf offered)) refl
+  pub check-given : CheckSays S offered (roomOf room) (checkGiven (S .table) (length offered) room (check S (readSteps (S .profile) offered)))
+  check-given = check-said (check S (readSteps (S .profile) offered)) refl
 
 -- No other outcome is permitted.
 differ : {steps : List Step} → nothing ≡ found steps → ⊥
@@ -162,8 +162,8 @@ module _ (S : Setting) where
     one-search-outcome (found-too-long s l c a f) (found-too-long r k d b g) = ap (λ (n : ℕ). Calls.refused 16 0 n) (same-end s r .1)
 
   module _ (offered : List ℕ) (room : ℕ) where
-    same-check : {v w : CheckVerdict} → Checks S (start (S .table)) 0 (map stepOf offered) v → Checks S (start (S .table)) 0 (map stepOf offered) w → v ≡ w
-    same-check {v} {w} = one-check-verdict S (map stepOf offered) v w
+    same-check : {v w : CheckVerdict} → Checks S (start (S .table)) 0 (readSteps (S .profile) offered) v → Checks S (start (S .table)) 0 (readSteps (S .profile) offered) w → v ≡ w
+    same-check {v} {w} = one-check-verdict S (readSteps (S .profile) offered) v w
 
     refused-accepted : {why : Refusal} {place : ℕ} {x : Tableau} → refused why place ≡ accepted x → ⊥
     refused-accepted e = let z : _≡_ {A = ℕ} 0 1 = cc in omega arith

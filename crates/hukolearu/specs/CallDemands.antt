@@ -9,7 +9,7 @@ use Rattle.words.specs.Steps.{stepOf, stepWord}
 use Rattle.words.specs.declared.Step.{Step}
 use Rattle.table.specs.Syntax.{Table}
 use Rattle.table.specs.File.{tableIn}
-use Rattle.rules.specs.Setting.{Setting}
+use Rattle.rules.specs.Setting.{Profile, everyLeaf, readStep, Setting}
 use Rattle.rules.specs.Tableau.{start, Closed}
 use Rattle.rules.specs.Order.{Ending, Searched, First}
 use Rattle.rules.specs.Truth.{Interpretation, AllHold, TrueAnswer}
@@ -116,8 +116,11 @@ NeverNone =
     → FoundStatus (searchStatus a) → FoundStatus (searchStatus b) ⊎ (searchStatus b ≡ Status.ranOut)
 
 -- In such a call with an answer buffer at least as long, an accepted proof, its clause numbers moved along, is accepted again with the same answer words.
+abbrev pub movedBy : Profile → {t u : Table} → Larger t u → ℕ → ℕ
+movedBy rules larger w = stepWord (moved larger (readStep rules w))
+
 abbrev pub movedWord : {t u : Table} → Larger t u → ℕ → ℕ
-movedWord larger w = stepWord (moved larger (stepOf w))
+movedWord larger w = movedBy everyLeaf larger w
 
 abbrev pub AcceptedOnceMore : Type 0
 AcceptedOnceMore =

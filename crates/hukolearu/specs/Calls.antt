@@ -9,7 +9,7 @@ use Rattle.words.specs.Steps.{stepOf, stepWord}
 use Rattle.words.specs.declared.Step.{Step}
 use Rattle.table.specs.Syntax.{Table}
 use Rattle.table.specs.File.{tableIn}
-use Rattle.rules.specs.Setting.{Setting, base}
+use Rattle.rules.specs.Setting.{Profile, longestProof, readSteps, Setting, over, base}
 use Rattle.rules.specs.Verdict.{Refusal, statusOf, SearchVerdict, finds, finds-none, runs-out}
 use Rattle.rules.specs.Machinery.Play.{Play, Checking, passed, stopped, check, searchFor, answerOf, disjunctsOf}
 use Rattle.hukolearu.specs.Status as Status
@@ -77,8 +77,18 @@ pub record SearchAsked : Type 0 where
   pub answerRoom : ℕ
   pub workRoom : ℕ
 
+-- the proof buffer must hold the longest proof of the rules that are asked for
+abbrev pub inputsBy : Profile → SearchAsked → Inputs
+inputsBy rules a = record { bound = a .bound; work = a .workRoom; proof = a .proofRoom; least = longestProof rules }
+
 abbrev pub searchInputs : SearchAsked → Inputs
 searchInputs a = record { bound = a .bound; work = a .workRoom; proof = a .proofRoom; least = 199 }
+
+-- the search by any profile's rules
+unfoldable pub searchBy : Profile → SearchAsked → Given
+searchBy rules a =
+    let S : Setting = over rules (tableIn (a .file)) (a .bound) in
+    behind (firstFault (checks (a .file) (inputsBy rules a))) refusedBy (searchGiven S (a .answerRoom) (searchFor S (a .budget)))
 
 -- document 01's rules over the file's table within the bound
 abbrev pub searchSetting : SearchAsked → Setting
@@ -107,6 +117,13 @@ unfoldable pub checkCall : CheckAsked → Given
 checkCall a =
     behind (firstFault (checks (a .file) (checkInputs a))) refusedBy
     (checkGiven (tableIn (a .file)) (length (a .offered)) (a .answerRoom) (check (checkSetting a) (map stepOf (a .offered))))
+
+-- the check by any profile's rules, its words read as the profile reads them
+unfoldable pub checkBy : Profile → CheckAsked → Given
+checkBy rules a =
+    behind (firstFault (checks (a .file) (checkInputs a))) refusedBy
+    (checkGiven (tableIn (a .file)) (length (a .offered)) (a .answerRoom)
+    (check (over rules (tableIn (a .file)) (a .bound)) (readSteps rules (a .offered))))
 
 -- as the buffers are lent
 abbrev pub searchWith : List ℕ → ℕ → ℕ → List ℕ → List ℕ → List ℕ → SearchAsked

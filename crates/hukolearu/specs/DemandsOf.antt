@@ -4,11 +4,10 @@ use mathlib.Core.List.{List, map}
 use mathlib.Core.Logic.{_↔_, _⊎_, _≢_}
 use mathlib.Core.Path.{_≡_}
 use Prim.Native.Nat.{ℕ, _≤_, _<_}
-use Rattle.words.specs.Steps.{stepOf}
 use Rattle.words.specs.declared.Step.{Step}
 use Rattle.table.specs.File.{tableIn}
 use Rattle.table.specs.Syntax.{Table}
-use Rattle.rules.specs.Setting.{Profile, everyLeaf, Setting, over}
+use Rattle.rules.specs.Setting.{Profile, everyLeaf, readSteps, Setting, over}
 use Rattle.rules.specs.Tableau.{start, Closed}
 use Rattle.rules.specs.Order.{Ending, Searched, First}
 use Rattle.rules.specs.Truth.{Interpretation, AllHold}
@@ -16,7 +15,7 @@ use Rattle.rules.specs.Growing.{Larger}
 use Rattle.hukolearu.specs.Status as Status
 use Rattle.hukolearu.specs.Calls.{Given, roomOf, SearchAsked, searchCall, CheckAsked, checkCall}
 use Rattle.hukolearu.specs.Says.{SearchAccepted, CheckAccepted, SearchSays, CheckSays}
-use Rattle.hukolearu.specs.CallDemands.{FoundStatus, WordsHold, withBudget, movedWord}
+use Rattle.hukolearu.specs.CallDemands.{FoundStatus, WordsHold, withBudget, movedBy}
 
 module _ (profile : Profile) (seen : List ℕ → Table) where
   -- the rules of a search: this profile over the table that it sees in the file
@@ -36,7 +35,7 @@ module _ (profile : Profile) (seen : List ℕ → Table) where
     pub none-exactly : (a : SearchAsked) → accepted a → call a .outcome .status ≢ Status.ranOut
         → (call a .outcome .status ≡ Status.noneFound) ↔ ((steps : List Step) → ¬ Closed (searchRules a) steps)
     -- or hands back the first in the stated order
-    pub first-found : (a : SearchAsked) → accepted a → call a .outcome .status ≡ Status.done → First (searchRules a) (map stepOf (call a .proof))
+    pub first-found : (a : SearchAsked) → accepted a → call a .outcome .status ≡ Status.done → First (searchRules a) (readSteps profile (call a .proof))
     -- DEMAND 3
     -- its answer is true wherever all clauses but the question hold
     pub answers-hold : (I : Interpretation) (a : SearchAsked) → accepted a → AllHold I (seen (a .file) .clauses) → call a .outcome .status ≡ Status.done
@@ -52,13 +51,13 @@ module _ (profile : Profile) (seen : List ℕ → Table) where
     -- DEMAND 2
     pub says : (a : CheckAsked) → accepted a → CheckSays (checkRules a) (a .offered) (roomOf (a .answerRoom)) (call a)
     -- the checker accepts exactly the closed tableaux within the bound
-    pub accepts-exactly : (a : CheckAsked) → accepted a → FoundStatus (call a .outcome .status) ↔ Closed (checkRules a) (map stepOf (a .offered))
+    pub accepts-exactly : (a : CheckAsked) → accepted a → FoundStatus (call a .outcome .status) ↔ Closed (checkRules a) (readSteps profile (a .offered))
     -- DEMAND 3
     pub answers-hold : (I : Interpretation) (a : CheckAsked) → accepted a → AllHold I (seen (a .file) .clauses) → call a .outcome .status ≡ Status.done
         → WordsHold I (seen (a .file)) (call a)
     -- an accepted proof, its clause numbers moved along, is accepted again with the same answer words
     pub accepted-again : (a b : CheckAsked) → accepted a → accepted b → (grown : Larger (seen (a .file)) (seen (b .file))) → a .bound ≤ b .bound
-        → a .answerRoom ≤ b .answerRoom → b .offered ≡ map (movedWord grown) (a .offered) → call a .outcome .status ≡ Status.done → call b ≡ call a
+        → a .answerRoom ≤ b .answerRoom → b .offered ≡ map (movedBy profile grown) (a .offered) → call a .outcome .status ≡ Status.done → call b ≡ call a
 
 -- Document 01's calls meet them; CallDemands says the same of these calls one by one, and of a larger budget whatever the call.
 abbrev pub BaseSearchMeets : Type 0

@@ -35,7 +35,7 @@ firstFault (some fault ∷ checks) = some fault
 abbrev pub workCheck : ℕ → Check
 workCheck work = refusedIf (ltb work 16384) Status.workTooShort
 
--- 2: proof buffer under the words that the call wants: 199 for a search, none for a call that is lent no proof buffer
+-- 2: proof buffer under the words that the call wants: 199 for a search, 231 where leaves are restarted, none for a call that is lent no proof buffer
 abbrev pub proofCheck : ℕ → ℕ → Check
 proofCheck least proof = refusedIf (ltb proof least) Status.proofTooShort
 

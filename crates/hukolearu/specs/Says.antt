@@ -3,9 +3,9 @@
 use mathlib.Core.List.{List, [], map}
 use Prim.Native.Nat.{ℕ, _≤_, _<_}
 use lib.ListN.{length}
-use Rattle.words.specs.Steps.{stepOf, stepWord}
+use Rattle.words.specs.Steps.{stepWord}
 use Rattle.words.specs.declared.Step.{Step}
-use Rattle.rules.specs.Setting.{Setting}
+use Rattle.rules.specs.Setting.{readSteps, Setting}
 use Rattle.rules.specs.Tableau.{Tableau, start, Closed}
 use Rattle.rules.specs.Order.{Ending, found, nothing, Searched}
 use Rattle.rules.specs.Verdict.{Refusal, statusOf, accepted, refused, Checks, Answers}
@@ -37,11 +37,11 @@ pub data SearchSays (S : Setting) (budget room : ℕ) : Given → Type 0 where
 
 -- What an accepted check says: the refusal of the first step that is at fault, or the answer of the closed tableau, if it fits.
 pub data CheckSays (S : Setting) (offered : List ℕ) (room : ℕ) : Given → Type 0 where
-  not-closed : {why : Refusal} {place : ℕ} → Checks S (start (S .table)) 0 (map stepOf offered) (refused why place)
+  not-closed : {why : Refusal} {place : ℕ} → Checks S (start (S .table)) 0 (readSteps (S .profile) offered) (refused why place)
       → CheckSays S offered room (Calls.refused (statusOf why) place 0)
-  closed-fitting : {x : Tableau} {count : ℕ} {words : List ℕ} → Checks S (start (S .table)) 0 (map stepOf offered) (accepted x)
+  closed-fitting : {x : Tableau} {count : ℕ} {words : List ℕ} → Checks S (start (S .table)) 0 (readSteps (S .profile) offered) (accepted x)
       → Answers (S .table) x count words → length words ≤ room
       → CheckSays S offered room (granted (length offered) [] count words 0)
-  closed-too-long : {x : Tableau} {count : ℕ} {words : List ℕ} → Checks S (start (S .table)) 0 (map stepOf offered) (accepted x)
+  closed-too-long : {x : Tableau} {count : ℕ} {words : List ℕ} → Checks S (start (S .table)) 0 (readSteps (S .profile) offered) (accepted x)
       → Answers (S .table) x count words → room < length words
       → CheckSays S offered room (Calls.refused Status.answerTooLong 0 0)

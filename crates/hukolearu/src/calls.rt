@@ -4,6 +4,7 @@ use crate::door;
 use crate::door::Entry;
 use crate::door::Inputs;
 use crate::status;
+use engine::Conditions;
 use engine::answer;
 use engine::answer::Room;
 use engine::check;
@@ -14,21 +15,32 @@ use engine::search::Ending;
 use unification::memory;
 use words::fields;
 ghost use mathlib.Core.Path.{_≡_};
-ghost use mathlib.Core.List.{[], map};
+ghost use mathlib.Core.List.{[]};
 ghost use Prim.Native.Nat.{_≤_};
 ghost use lib.ListN.{length, take, drop};
-ghost use Rattle.words.specs.Steps.{stepOf};
 ghost use Rattle.table.specs.File.{tableIn};
 ghost use Rattle.rules.specs.Machinery.Play.{check, searchFor};
-ghost use Rattle.rules.specs.Setting.{base};
+ghost use Rattle.rules.specs.Setting.{profileOf, longestProof, readSteps, base};
 ghost use Rattle.unification.specs.Good.{Good};
+ghost use Rattle.engine.specs.Ended.{settingFor};
 ghost use Rattle.engine.specs.Writing.{answerHeld, disjunctsKept};
 ghost use Rattle.hukolearu.specs.Door.{workAfter};
-ghost use Rattle.hukolearu.specs.Calls.{refused, granted, roomOf, searchGiven, checkGiven, searchCall, searchWith, checkCall, checkWith, atFront};
+ghost use Rattle.hukolearu.specs.Calls.{refused, granted, roomOf, searchGiven, checkGiven, searchBy, searchCall, searchWith, checkBy, checkCall, checkWith, atFront};
 ghost use Rattle.hukolearu.specs.Telling.{Told, Passed, Answerable, Fits, Writable, held};
 
-// A search's longest proof.
+// A search's longest proof by document 01's rules, and where leaves are restarted.
 pub const LONGEST_PROOF: usize = 199;
+
+pub const LONGEST_RESTARTED: usize = 231;
+
+fn longest_proof(restarts: bool) -> usize
+    ensures { λ r. ⌜ r ≡ longestProof (profileOf restarts) ⌝ }
+{
+    if restarts {
+        return LONGEST_RESTARTED;
+    }
+    LONGEST_PROOF
+}
 
 pub fn refused(status: u32, place: u32, tries: u32) -> Outcome
     ensures { λ r. ⌜ r ≡ refused status place tries .outcome ⌝ }
@@ -83,7 +95,7 @@ fn granted(file: &[u32], work: &mut [u32], answer: &mut [u32], proof: u32, tries
 }
 
 fn copy_steps(work: &[u32], proof: &mut [u32], count: u32)
-    requires { ⌜ (length (now work) ≡ 16384) × (count ≤ 199) × (199 ≤ length (now proof)) ⌝ }
+    requires { ⌜ (length (now work) ≡ 16384) × (count ≤ 231) × (count ≤ length (now proof)) ⌝ }
     ensures { λ _. ⌜ now (proof .exit) ≡ atFront (take count (drop 1984 (now (work .entry)))) (now (proof .entry)) ⌝ }
 {
     let n = fields::wide(count);
@@ -104,7 +116,7 @@ fn found(
     answer: &mut [u32],
     work: &mut [u32],
 ) -> Outcome
-    requires { ⌜ Answerable (now file) (now work) × (steps ≤ 199) × (199 ≤ length (now proof)) ⌝ }
+    requires { ⌜ Answerable (now file) (now work) × (steps ≤ 231) × (steps ≤ length (now proof)) ⌝ }
     ensures { λ r. ⌜ Told (held (now (file .entry)) (now (work .entry)) question steps (take steps (drop 1984 (now (work .entry)))) tries (length (now (answer .entry)))) r (now (proof .entry)) (now (proof .exit)) (now (answer .entry)) (now (answer .exit)) ⌝ }
 {
     if !fits(file, work, question, answer.len()) {
@@ -114,7 +126,31 @@ fn found(
     granted(file, work, answer, steps, tries)
 }
 
-// A search past the door.
+// A search past the door, under any conditions.
+pub fn searched_by(
+    file: &[u32],
+    question: u32,
+    conditions: Conditions,
+    budget: u32,
+    proof: &mut [u32],
+    answer: &mut [u32],
+    work: &mut [u32],
+) -> Outcome
+    requires { ⌜ Passed (now file) (now work) question (conditions .bound) × (longestProof (profileOf (conditions .restarts)) ≤ length (now proof)) ⌝ }
+    ensures { λ r. ⌜ Told (searchGiven (settingFor (now (file .entry)) conditions) (length (now (answer .entry))) (searchFor (settingFor (now (file .entry)) conditions) budget)) r (now (proof .entry)) (now (proof .exit)) (now (answer .entry)) (now (answer .exit)) ⌝ }
+{
+    let ended = search::find(file, work, question, conditions, budget);
+    let ending = ended.ending;
+    let left = ended.left;
+    let steps = ended.steps;
+    match ending {
+        Ending::Nothing => refused(status::NONE_FOUND, 0, budget - left),
+        Ending::Out => refused(status::RAN_OUT, 0, budget),
+        Ending::Found => found(file, question, steps, budget - left, proof, answer, work),
+    }
+}
+
+// A search past the door by document 01's rules.
 pub fn searched(
     file: &[u32],
     question: u32,
@@ -127,14 +163,53 @@ pub fn searched(
     requires { ⌜ Passed (now file) (now work) question bound × (199 ≤ length (now proof)) ⌝ }
     ensures { λ r. ⌜ Told (searchGiven (base (tableIn (now (file .entry))) bound) (length (now (answer .entry))) (searchFor (base (tableIn (now (file .entry))) bound) budget)) r (now (proof .entry)) (now (proof .exit)) (now (answer .entry)) (now (answer .exit)) ⌝ }
 {
-    let ended = search::find(file, work, question, bound, budget);
-    let ending = ended.ending;
-    let left = ended.left;
-    let steps = ended.steps;
-    match ending {
-        Ending::Nothing => refused(status::NONE_FOUND, 0, budget - left),
-        Ending::Out => refused(status::RAN_OUT, 0, budget),
-        Ending::Found => found(file, question, steps, budget - left, proof, answer, work),
+    let conditions = Conditions {
+        bound,
+        restarts: false,
+    };
+    searched_by(file, question, conditions, budget, proof, answer, work)
+}
+
+// A search by document 01's rules, or where leaves are restarted.
+pub fn search_by(
+    file: &[u32],
+    conditions: Conditions,
+    budget: u32,
+    proof: &mut [u32],
+    answer: &mut [u32],
+    work: &mut [u32],
+) -> Outcome
+    ensures { λ r. ⌜ r ≡ searchBy (profileOf (conditions .restarts)) (searchWith (now (file .entry)) (conditions .bound) budget (now (proof .entry)) (now (answer .entry)) (now (work .entry))) .outcome ⌝ }
+    ensures { λ _. ⌜ now (proof .exit) ≡ atFront (searchBy (profileOf (conditions .restarts)) (searchWith (now (file .entry)) (conditions .bound) budget (now (proof .entry)) (now (answer .entry)) (now (work .entry))) .proof) (now (proof .entry)) ⌝ }
+    ensures { λ _. ⌜ now (answer .exit) ≡ atFront (searchBy (profileOf (conditions .restarts)) (searchWith (now (file .entry)) (conditions .bound) budget (now (proof .entry)) (now (answer .entry)) (now (work .entry))) .answer) (now (answer .entry)) ⌝ }
+    ensures { λ _. ⌜ now (work .exit) ≡ workAfter (now (work .entry)) ⌝ }
+{
+    let least = longest_proof(conditions.restarts);
+    let inputs = Inputs {
+        bound: conditions.bound,
+        work: work.len(),
+        proof: proof.len(),
+        least,
+    };
+    let entry = door::enter(file, inputs);
+    match entry {
+        Entry::Refused(status, place) => {
+            door::leave(work);
+            refused(status, place, 0)
+        }
+        Entry::Open(question) => {
+            let outcome = searched_by(
+                file,
+                question,
+                conditions,
+                budget,
+                proof,
+                answer,
+                &mut work[..memory::ROOM],
+            );
+            door::leave(work);
+            outcome
+        }
     }
 }
 
@@ -151,32 +226,11 @@ pub fn search(
     ensures { λ _. ⌜ now (answer .exit) ≡ atFront (searchCall (searchWith (now (file .entry)) bound budget (now (proof .entry)) (now (answer .entry)) (now (work .entry))) .answer) (now (answer .entry)) ⌝ }
     ensures { λ _. ⌜ now (work .exit) ≡ workAfter (now (work .entry)) ⌝ }
 {
-    let inputs = Inputs {
+    let conditions = Conditions {
         bound,
-        work: work.len(),
-        proof: proof.len(),
-        least: LONGEST_PROOF,
+        restarts: false,
     };
-    let entry = door::enter(file, inputs);
-    match entry {
-        Entry::Refused(status, place) => {
-            door::leave(work);
-            refused(status, place, 0)
-        }
-        Entry::Open(question) => {
-            let outcome = searched(
-                file,
-                question,
-                bound,
-                budget,
-                proof,
-                answer,
-                &mut work[..memory::ROOM],
-            );
-            door::leave(work);
-            outcome
-        }
-    }
+    search_by(file, conditions, budget, proof, answer, work)
 }
 
 // The answer of an accepted proof, if it fits.
@@ -200,34 +254,35 @@ fn accepted(
 pub fn checked(
     file: &[u32],
     question: u32,
-    bound: u32,
+    conditions: Conditions,
     offered: &[u32],
     answer: &mut [u32],
     work: &mut [u32],
 ) -> Outcome
-    requires { ⌜ Passed (now file) (now work) question bound ⌝ }
-    ensures { λ r. ⌜ Told (checkGiven (tableIn (now (file .entry))) (length (now (offered .entry))) (length (now (answer .entry))) (check (base (tableIn (now (file .entry))) bound) (map stepOf (now (offered .entry))))) r [] [] (now (answer .entry)) (now (answer .exit)) ⌝ }
+    requires { ⌜ Passed (now file) (now work) question (conditions .bound) ⌝ }
+    ensures { λ r. ⌜ Told (checkGiven (tableIn (now (file .entry))) (length (now (offered .entry))) (length (now (answer .entry))) (check (settingFor (now (file .entry)) conditions) (readSteps (profileOf (conditions .restarts)) (now (offered .entry))))) r [] [] (now (answer .entry)) (now (answer .exit)) ⌝ }
 {
-    let verdict = check::run(file, work, question, bound, offered);
+    let verdict = check::run(file, work, question, conditions, offered);
     match verdict {
         Verdict::Refused(status, place) => refused(status, place, 0),
         Verdict::Accepted(steps) => accepted(file, question, steps, answer, work),
     }
 }
 
-pub fn check_proof(
+// A check by document 01's rules, or where leaves are restarted.
+pub fn check_by(
     file: &[u32],
-    bound: u32,
+    conditions: Conditions,
     offered: &[u32],
     answer: &mut [u32],
     work: &mut [u32],
 ) -> Outcome
-    ensures { λ r. ⌜ r ≡ checkCall (checkWith (now (file .entry)) bound (now (offered .entry)) (now (answer .entry)) (now (work .entry))) .outcome ⌝ }
-    ensures { λ _. ⌜ now (answer .exit) ≡ atFront (checkCall (checkWith (now (file .entry)) bound (now (offered .entry)) (now (answer .entry)) (now (work .entry))) .answer) (now (answer .entry)) ⌝ }
+    ensures { λ r. ⌜ r ≡ checkBy (profileOf (conditions .restarts)) (checkWith (now (file .entry)) (conditions .bound) (now (offered .entry)) (now (answer .entry)) (now (work .entry))) .outcome ⌝ }
+    ensures { λ _. ⌜ now (answer .exit) ≡ atFront (checkBy (profileOf (conditions .restarts)) (checkWith (now (file .entry)) (conditions .bound) (now (offered .entry)) (now (answer .entry)) (now (work .entry))) .answer) (now (answer .entry)) ⌝ }
     ensures { λ _. ⌜ now (work .exit) ≡ workAfter (now (work .entry)) ⌝ }
 {
     let inputs = Inputs {
-        bound,
+        bound: conditions.bound,
         work: work.len(),
         proof: 0,
         least: 0,
@@ -242,7 +297,7 @@ pub fn check_proof(
             let outcome = checked(
                 file,
                 question,
-                bound,
+                conditions,
                 offered,
                 answer,
                 &mut work[..memory::ROOM],
@@ -251,4 +306,22 @@ pub fn check_proof(
             outcome
         }
     }
+}
+
+pub fn check_proof(
+    file: &[u32],
+    bound: u32,
+    offered: &[u32],
+    answer: &mut [u32],
+    work: &mut [u32],
+) -> Outcome
+    ensures { λ r. ⌜ r ≡ checkCall (checkWith (now (file .entry)) bound (now (offered .entry)) (now (answer .entry)) (now (work .entry))) .outcome ⌝ }
+    ensures { λ _. ⌜ now (answer .exit) ≡ atFront (checkCall (checkWith (now (file .entry)) bound (now (offered .entry)) (now (answer .entry)) (now (work .entry))) .answer) (now (answer .entry)) ⌝ }
+    ensures { λ _. ⌜ now (work .exit) ≡ workAfter (now (work .entry)) ⌝ }
+{
+    let conditions = Conditions {
+        bound,
+        restarts: false,
+    };
+    check_by(file, conditions, offered, answer, work)
 }

@@ -4,7 +4,7 @@ use mathlib.Core.List.{List, [], _∷_}
 use mathlib.Core.Option.{some}
 use mathlib.Core.Path.{_≡_}
 use Prim.Native.Nat.{ℕ, zero, suc, _+_, _*_, _-_, _/_, _%_, _≤_, _<_}
-use lib.Dec.{eqb}
+use lib.Dec.{eqb, ltb}
 use lib.ListN.{length, take, drop, getD, set, getElem?}
 use Rattle.words.specs.Fields.{kindOf, numberOf}
 use Rattle.index.specs.Scanning.{begun, pastWord, Standing}
@@ -53,6 +53,14 @@ picked word (k ∷ ks) (s ∷ ss) = cond (eqb k word) (s ∷ picked word ks ss) 
 unfoldable pub ahead : List ℕ → List Scan → ℕ → ℕ → List Scan
 ahead ks ss word zero = []
 ahead ks ss word (suc i) = picked word (drop i ks) (drop i ss)
+
+-- the first place from a place on whose word begins a clause or a literal, and a scan that stands there
+unfoldable pub plainFrom : ℕ → List ℕ → ℕ
+plainFrom at [] = at
+plainFrom at (w ∷ ws) = cond (ltb 1 (kindOf w)) at (plainFrom (at + 1) ws)
+
+abbrev pub movedTo : Scan → ℕ → Scan
+movedTo s at = record { at = at; clauses = s .clauses; start = s .start; literals = s .literals }
 
 -- The regions of the notes (docs/MEMORY.md).
 abbrev pub countAt : List ℕ → ℕ

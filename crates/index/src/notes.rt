@@ -7,9 +7,9 @@ use words::fields;
 ghost use mathlib.Core.List.{List};
 ghost use mathlib.Core.Path.{_≡_};
 ghost use Prim.Native.Nat.{ℕ, _≤_, _<_};
-ghost use lib.ListN.{length, take};
+ghost use lib.ListN.{length, take, drop};
 ghost use Rattle.index.specs.Scanning.{IsEntry};
-ghost use Rattle.index.specs.Noting.{Fits, Few, packed, noted, Unpacks, unpacked, Indexed};
+ghost use Rattle.index.specs.Noting.{plainFrom, movedTo, Fits, Few, packed, noted, Unpacks, unpacked, Indexed};
 
 // Where a literal stands, in one word.
 fn packed(scan: Scan) -> u32
@@ -30,6 +30,33 @@ fn note_literal(work: &mut [u32], number: u32, scan: Scan)
     work[places::CLAUSES + fields::wide(clause)] = number - scan.literals;
 }
 
+// A scan at another place of the same clause.
+fn moved(scan: Scan, at: u32) -> Scan
+    ensures { λ r. ⌜ r ≡ movedTo scan at ⌝ }
+{
+    Scan {
+        at,
+        clauses: scan.clauses,
+        start: scan.start,
+        literals: scan.literals,
+    }
+}
+
+// The scan past the words that begin neither a clause nor a literal.
+fn past_plain(file: &[u32], scan: Scan, body: u32) -> Scan
+    requires { ⌜ (scan .at ≤ body) × (body ≤ length (now file)) ⌝ }
+    ensures { λ r. ⌜ r ≡ movedTo scan (plainFrom (scan .at) (drop (scan .at) (take body (now (file .entry))))) ⌝ }
+{
+    let mut at = scan.at;
+    while at < body {
+        if 1 < fields::kind(file[fields::wide(at)]) {
+            return moved(scan, at);
+        }
+        at += 1;
+    }
+    moved(scan, at)
+}
+
 // The literals of a body, noted once.
 pub fn note(file: &[u32], work: &mut [u32], body: u32)
     requires { ⌜ (length (now work) ≡ 16384) × (body ≤ length (now file)) × (body ≤ 16000) × Few (take body (now file)) ⌝ }
@@ -42,6 +69,7 @@ pub fn note(file: &[u32], work: &mut [u32], body: u32)
         let word = file[fields::wide(here.at)];
         scan = entries::past(here, word);
         if fields::kind(word) != 2 {
+            scan = past_plain(file, scan, body);
             continue;
         }
         note_literal(work, count, here);

@@ -11,7 +11,7 @@ use native.Mathlib.Decide.{decLt}
 use native.Mathlib.Omega.{arith}
 use Prim.Native.Nat.{ℕ, zero, suc, _+_, _≤_, _<_}
 use Rattle.words.specs.declared.Step.{Step}
-use Rattle.words.specs.declared.Step.the-variants.{Reduction, Extension, Malformed}
+use Rattle.words.specs.declared.Step.the-variants.{Reduction, Extension, Restart, Malformed}
 use Rattle.table.specs.Encode.{clauseWords, clausesWords, bodyWords}
 use Rattle.table.specs.Limits.{Each, ClauseWithin, Within, FileWithin}
 use Rattle.table.specs.Syntax.{Clause, Table, allClauses}
@@ -48,6 +48,7 @@ copied-some number literal (Extension clause other ∷ steps) (later m) = go (eq
     go true h = omega arith
     go false h = h
 copied-some number literal (Reduction height ∷ steps) (later m) = copied-some number literal steps m
+copied-some number literal (Restart ∷ steps) (later m) = copied-some number literal steps m
 copied-some number literal (Malformed ∷ steps) (later m) = copied-some number literal steps m
 
 -- and where the count is not zero there is one
@@ -62,6 +63,7 @@ some-copied number (Extension clause literal ∷ steps) h = go (eqb clause numbe
     go true e f k = (literal, subst (λ (n : ℕ). Extension n literal ∈ (Extension clause literal ∷ steps)) (eqb-true clause number e) first)
     go false e f k = let r = f k in (r .0, later (r .1))
 some-copied number (Reduction height ∷ steps) h = let r = some-copied number steps h in (r .0, later (r .1))
+some-copied number (Restart ∷ steps) h = let r = some-copied number steps h in (r .0, later (r .1))
 some-copied number (Malformed ∷ steps) h = let r = some-copied number steps h in (r .0, later (r .1))
 
 abbrev clausesIn : List Listed → List Clause

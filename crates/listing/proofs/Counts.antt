@@ -4,6 +4,7 @@ use denote.Enum.Declared.{tagOf}
 use types.Run.{OneOf}
 use lib.ListN.{length, drop, getD, set, replicate, length-set, length-replicate, drop-of-length-le}
 use lib.Seq.{drop-cons}
+use mathlib.Core.Bool.{false}
 use mathlib.Core.List.{List, [], _∷_, map}
 use mathlib.Core.Logic.{inl, inr}
 use mathlib.Core.Path.{_≡_, refl, sym, ap, _∙_}
@@ -15,7 +16,7 @@ use native.Mathlib.Omega.{arith}
 use Prim.Native.Nat.{ℕ, zero, suc, _+_, _-_, _≤_, _<_}
 use Rattle.words.specs.Steps.{stepOf}
 use Rattle.words.specs.declared.Step.{Step}
-use Rattle.words.specs.declared.Step.the-variants.{Reduction, Extension, Malformed}
+use Rattle.words.specs.declared.Step.the-variants.{Reduction, Extension, Restart, Malformed}
 use Rattle.words.proofs.Step.{the-type as steps}
 use Rattle.engine.proofs.CheckSteps.{small-clause}
 use Rattle.listing.specs.Behind.{copiedBy}
@@ -57,11 +58,13 @@ set-elsewhere (x ∷ xs) (suc i) zero v n = refl
 set-elsewhere (x ∷ xs) (suc i) (suc j) v n = set-elsewhere xs i j v (λ e. n (ap suc e))
 
 -- a step that copies no clause
-copies-none : (s : Step) (ss : List Step) (number : ℕ) → OneOf (0 ∷ 2 ∷ []) (tagOf steps s) → copiedBy (s ∷ ss) number ≡ copiedBy ss number
+copies-none : (s : Step) (ss : List Step) (number : ℕ) → OneOf (0 ∷ 2 ∷ 3 ∷ []) (tagOf steps s) → copiedBy (s ∷ ss) number ≡ copiedBy ss number
 unfolding copiedBy
 copies-none (Reduction height) ss number h = refl
 copies-none (Extension clause literal) ss number (inl e) = let z : _≡_ {A = ℕ} 0 1 = cc in absurd (omega arith)
-copies-none (Extension clause literal) ss number (inr e) = let z : _≡_ {A = ℕ} 1 2 = e in absurd (omega arith)
+copies-none (Extension clause literal) ss number (inr (inl e)) = let z : _≡_ {A = ℕ} 1 2 = e in absurd (omega arith)
+copies-none (Extension clause literal) ss number (inr (inr e)) = let z : _≡_ {A = ℕ} 1 3 = e in absurd (omega arith)
+copies-none Restart ss number h = refl
 copies-none Malformed ss number h = refl
 
 -- a step that copies one
@@ -79,7 +82,7 @@ module _ (offered copies : List ℕ) (i : ℕ) (g : Counting offered i copies) (
   this-step = ap (λ (ws : List ℕ). map stepOf ws) (drop-cons offered i 0 h) ∙ rw (add-one i)
 
   module _ {s : Step} (e : s ≡ stepOf (getD offered i 0)) where
-    pub count-past : OneOf (0 ∷ 2 ∷ []) (tagOf steps s) → Counting offered (i + 1) copies
+    pub count-past : OneOf (0 ∷ 2 ∷ 3 ∷ []) (tagOf steps s) → Counting offered (i + 1) copies
     count-past none =
         record {
           within = omega arith;
@@ -98,7 +101,7 @@ module _ (offered copies : List ℕ) (i : ℕ) (g : Counting offered i copies) (
 
     module _ {clause literal number : ℕ} (f : s ≡ Extension clause literal) (n : number ≡ clause) where
       pub count-in : number < length copies
-      count-in = omega (arith, n, g .long, small-clause (getD offered i 0) (sym e ∙ f))
+      count-in = omega (arith, n, g .long, small-clause (record { bound = 0; restarts = false }) (getD offered i 0) (sym e ∙ f))
 
       pub count-fits : length offered ≤ 199 → Fits w32 (getD copies number 0 + 1)
       count-fits few = record { fits = omega (arith, g .low number) }

@@ -14,11 +14,12 @@ use Prim.Native.Nat.{ℕ, zero, suc, _+_, _≤_, _<_}
 use Rattle.words.specs.declared.Step.{Step}
 use Rattle.words.specs.declared.Step.the-variants.{Reduction, Extension}
 use Rattle.table.specs.Syntax.{Clause, Table, allClauses}
-use Rattle.rules.specs.Setting.{Setting}
+use Rattle.rules.specs.Setting.{restarting, Setting}
 use Rattle.rules.specs.System.{_∈_, first, later}
 use Rattle.rules.specs.Tableau.{Tableau, start, Made, as-it-stands, by-step, Closed}
+use Rattle.rules.proofs.Every.{true-false}
 use Rattle.rules.proofs.Lists.{some-below, some-append, some-last}
-use Rattle.rules.proofs.Steps.{Does, reduces, extends, does}
+use Rattle.rules.proofs.Steps.{Does, reduces, extends, restarts, does, restarts-some}
 use Rattle.listing.specs.Behind.{copiedBy, Listed, ifCopied, copiedFrom, copied, asked, listed}
 use Rattle.listing.specs.Lines.{lineText, linesText, listingText}
 use Rattle.listing.specs.Promises.{lineOf, Ascending, RightlyListed, sumOfCopies}
@@ -195,11 +196,11 @@ unfolding sums copiedBy
 sums-reduction height steps number zero = refl
 sums-reduction height steps number (suc many) = rw (sums-reduction height steps (suc number) many)
 
--- the steps make as many extensions as they copy clauses
+-- the steps make as many extensions as they copy clauses, where none is a restart
 module _ (S : Setting) where
-  made-copies : {x z : Tableau} {ss : List Step} → Made S x ss z → sums (copiedBy ss) 0 (length (allClauses (S .table))) + x .extensions ≡ z .extensions
-  made-copies as-it-stands = omega (arith, sums-none 0 (length (allClauses (S .table))))
-  made-copies (by-step {x} {y} {z} {s} {ss} e m) = by (does s e) (made-copies m)
+  made-copies : restarting (S .profile) ≡ false → {x z : Tableau} {ss : List Step} → Made S x ss z → sums (copiedBy ss) 0 (length (allClauses (S .table))) + x .extensions ≡ z .extensions
+  made-copies none as-it-stands = omega (arith, sums-none 0 (length (allClauses (S .table))))
+  made-copies none (by-step {x} {y} {z} {s} {ss} e m) = by (does s e) (made-copies none m)
     where
       by : {s : Step} → Does S x s y → sums (copiedBy ss) 0 (length (allClauses (S .table))) + y .extensions ≡ z .extensions
           → sums (copiedBy (s ∷ ss)) 0 (length (allClauses (S .table))) + x .extensions ≡ z .extensions
@@ -208,6 +209,7 @@ module _ (S : Setting) where
       by (extends {i = i} {j = j} l u c a f e) h =
           let n : ℕ = length (allClauses (S .table)) in
           omega (arith, h, ap (λ (u : Tableau). u .extensions) e, sums-inside i j ss 0 n (omega arith) (omega (arith, some-below (allClauses (S .table)) i c)))
+      by (restarts {leaf = leaf} l u e) h = true-false (restarts-some (S .profile) (leaf .literal .negative) (u .0)) none
 
   -- a clause number that they copy is the table's
   made-range : {x z : Tableau} {ss : List Step} → Made S x ss z → (i j : ℕ) → Extension i j ∈ ss → i < length (allClauses (S .table))
@@ -216,6 +218,7 @@ module _ (S : Setting) where
       of : {r : Step} → Does S x r y → r ≡ Extension i j → i < length (allClauses (S .table))
       of (reduces l a f e) h = let w : _≡_ {A = ℕ} 0 1 = cc in absurd (omega arith)
       of (extends {i = n} l u c a f e) h = let same : n ≡ i = cc in omega (arith, some-below (allClauses (S .table)) n c)
+      of (restarts l u e) h = let w : _≡_ {A = ℕ} 0 1 = cc in absurd (omega arith)
 
       at : (Extension i j ≡ s) ⊎ (Extension i j ∈ ss) → (Extension i j ∈ ss → i < length (allClauses (S .table))) → i < length (allClauses (S .table))
       at (inl h) f = of (does s e) (sym h)
@@ -234,16 +237,16 @@ module _ (copies : ℕ → ℕ) where
 
 -- of a closed tableau
 module _ (S : Setting) (steps : List Step) (c : Closed S steps) where
-  pub one-more : sumOfCopies (listed (S .table) steps) ≡ suc (c .tableau .extensions)
+  pub one-more : restarting (S .profile) ≡ false → sumOfCopies (listed (S .table) steps) ≡ suc (c .tableau .extensions)
   unfolding listed copied asked sumOfCopies start allClauses
-  one-more =
+  one-more none =
       let t : Table = S .table in
       let n : ℕ = length (t .clauses) in
       let many = ap (λ (m : ℕ). sums (copiedBy steps) 0 m) (length-append (t .clauses) (t .question ∷ []) ∙ add-one n) in
       omega (
         arith,
         sum-copied (copiedBy steps) 0 (t .clauses) (asked t steps ∷ []),
-        made-copies S (c .made),
+        made-copies S none (c .made),
         many,
         sums-behind (copiedBy steps) 0 n,
         ap (copiedBy steps) (zero-add n),

@@ -29,4 +29,4 @@ pub copies-are-right : Promises.CopiesAreRight
 copies-are-right t steps l m = rightly-listed t steps l m
 
 pub one-more-than-extensions : Promises.OneMoreThanExtensions
-one-more-than-extensions S steps c = one-more S steps c
+one-more-than-extensions S none steps c = one-more S steps c none

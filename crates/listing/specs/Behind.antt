@@ -6,15 +6,16 @@ use mathlib.Core.List.{List, [], _∷_, _++_, map}
 use Prim.Native.Nat.{ℕ, zero, suc, _+_}
 use Rattle.words.specs.Steps.{stepOf, stepWord}
 use Rattle.words.specs.declared.Step.{Step}
-use Rattle.words.specs.declared.Step.the-variants.{Reduction, Extension, Malformed}
+use Rattle.words.specs.declared.Step.the-variants.{Reduction, Extension, Restart, Malformed}
 use Rattle.table.specs.Syntax.{Clause, Table}
 use Rattle.rules.specs.Locality.{renumbered}
 
--- how many of the steps copy the clause of this number
+-- how many of the steps copy the clause of this number; under document 01's rules none is a restart
 unfoldable pub copiedBy : List Step → ℕ → ℕ
 copiedBy [] number = 0
 copiedBy (Extension clause literal ∷ steps) number = cond (eqb clause number) (suc (copiedBy steps number)) (copiedBy steps number)
 copiedBy (Reduction height ∷ steps) number = copiedBy steps number
+copiedBy (Restart ∷ steps) number = copiedBy steps number
 copiedBy (Malformed ∷ steps) number = copiedBy steps number
 
 -- a listed clause

@@ -1,6 +1,7 @@
 -- What order 7 promises, as statements, to be read beside document 02. Nothing is proved here; proofs/Promises.antt proves each of them.
 use lib.Dec.{eqb}
 use lib.ListN.{length, getElem?}
+use mathlib.Core.Bool.{false}
 use mathlib.Core.List.{List, [], _∷_, map, flatten}
 use mathlib.Core.Logic.{_↔_, _⊎_}
 use mathlib.Core.Option.{some}
@@ -13,7 +14,7 @@ use Rattle.table.specs.Encode.{fileWords}
 use Rattle.table.specs.File.{tableIn}
 use Rattle.table.specs.Limits.{Words}
 use Rattle.table.specs.Syntax.{Table, allClauses}
-use Rattle.rules.specs.Setting.{Setting}
+use Rattle.rules.specs.Setting.{restarting, Setting}
 use Rattle.rules.specs.System.{_∈_}
 use Rattle.rules.specs.Tableau.{Closed}
 use Rattle.rules.specs.Truth.{Interpretation, AllHold}
@@ -96,11 +97,11 @@ pub record RightlyListed (t : Table) (steps : List Step) (l : Listed) : Type 0 w
 abbrev pub CopiesAreRight : Type 0
 CopiesAreRight = (t : Table) (steps : List Step) (l : Listed) → l ∈ listed t steps → RightlyListed t steps l
 
--- The copies of a proof are one more than its extensions.
+-- The copies of a proof are one more than its extensions, where nothing is restarted: so under document 01's rules.
 unfoldable pub sumOfCopies : List Listed → ℕ
 sumOfCopies [] = 0
 sumOfCopies (l ∷ ls) = l .copies + sumOfCopies ls
 
 abbrev pub OneMoreThanExtensions : Type 0
 OneMoreThanExtensions =
-    (S : Setting) (steps : List Step) (c : Closed S steps) → sumOfCopies (listed (S .table) steps) ≡ suc (c .tableau .extensions)
+    (S : Setting) → restarting (S .profile) ≡ false → (steps : List Step) (c : Closed S steps) → sumOfCopies (listed (S .table) steps) ≡ suc (c .tableau .extensions)

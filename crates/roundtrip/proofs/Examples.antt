@@ -16,6 +16,7 @@ use Rattle.table.specs.Limits.{Each, Words}
 use Rattle.table.specs.File.{judge, tableIn}
 use Rattle.table.proofs.Bools.{and-left, and-right}
 use Rattle.table.proofs.Opened as Opened
+use Rattle.rules.specs.Setting.{everyLeaf}
 use Rattle.rules.specs.Verdict.{malformed, not-allowed, statusOf, CheckVerdict, accepted, refused}
 use Rattle.rules.proofs.Cases.{Returned, refusedAt, checking, asked, played}
 use Rattle.tptp.specs.Reads.{Reads}
@@ -172,11 +173,11 @@ gappy =
 abbrev found : List ℕ → Returned
 found answer = record { status = 0; place = 0; proof = 0x40000000 ∷ []; disjuncts = 1; answer = answer; tries = 0 }
 
-pub proved-old : asked gappy (checking 1 (0x40000000 ∷ [])) ≡ found (0x80002007 ∷ 0x40001009 ∷ 0x00000000 ∷ 0x40000009 ∷ [])
+pub proved-old : asked everyLeaf gappy (checking 1 (0x40000000 ∷ [])) ≡ found (0x80002007 ∷ 0x40001009 ∷ 0x00000000 ∷ 0x40000009 ∷ [])
 unfolding playing
 proved-old = refl
 
-pub proved-new : asked (renumbered gappy) (checking 1 (0x40000000 ∷ [])) ≡ found (0x80002000 ∷ 0x40001000 ∷ 0x00000000 ∷ 0x40000000 ∷ [])
+pub proved-new : asked everyLeaf (renumbered gappy) (checking 1 (0x40000000 ∷ [])) ≡ found (0x80002000 ∷ 0x40001000 ∷ 0x00000000 ∷ 0x40000000 ∷ [])
 unfolding playing
 proved-new = refl
 
@@ -185,10 +186,10 @@ unfolding playing
 answer-numbers = refl
 
 -- and a step that is refused over both, for the same reason: p7(f9(X3),f9) against p7(f2,f9)
-pub refused-old : asked (tableIn typed) (checking 1 (0x40000000 ∷ [])) ≡ refusedAt 14 0
+pub refused-old : asked everyLeaf (tableIn typed) (checking 1 (0x40000000 ∷ [])) ≡ refusedAt 14 0
 unfolding playing
 refused-old = refl
 
-pub refused-new : asked (tableIn back) (checking 1 (0x40000000 ∷ [])) ≡ refusedAt 14 0
+pub refused-new : asked everyLeaf (tableIn back) (checking 1 (0x40000000 ∷ [])) ≡ refusedAt 14 0
 unfolding playing
 refused-new = refl

@@ -6,9 +6,9 @@ use mathlib.Core.Option.{Option, none, some, Option·map}
 use mathlib.Core.Path.{_≡_, refl, sym, ap, ap₂, _∙_}
 use Prim.Native.Nat.{ℕ, zero, suc}
 use lib.ListN.{getElem?}
-use Rattle.table.specs.Syntax.{Term, var, app, Terms, nil, _then_, under, unders, Literal, literalUnder}
+use Rattle.table.specs.Syntax.{Term, var, app, Terms, nil, _then_, under, unders, Literal, literalUnder, Table}
 use Rattle.rules.specs.Substitution.{Variable, Substitution, Pair, Solves, Unifiable, MostGeneral}
-use Rattle.rules.specs.Tableau.{atom, fits, Leaf, Tableau, hang, ancestor, others, closing, afterReduction, reduced, afterExtension, entered}
+use Rattle.rules.specs.Tableau.{atom, fits, Leaf, Tableau, hang, ancestor, others, closing, afterReduction, reduced, afterExtension, entered, afterRestart, copyOf}
 use Rattle.rules.specs.Answer.{positive}
 use Rattle.rules.proofs.Instances.{others-map}
 use Rattle.roundtrip.specs.Renumbered.{renamedTerm, renamedTerms, renamedLiteral}
@@ -196,12 +196,25 @@ module _ (p f : Permutation ℕ) (v : Permutation Variable) where
         go true = record { leaves = refl; pairs = one-more (leaf .literal) m (i .pairs); extensions = i .extensions; questions = i .questions }
         go false = tt
 
+    hung-image : (copy : List (Literal Variable))
+        → hang (map image (leaf .literal ∷ leaf .branch)) (map image copy) ++ map leafImage rest ≡ map leafImage (hang (leaf .literal ∷ leaf .branch) copy ++ rest)
+    hung-image copy =
+        rw (hang-image (leaf .literal ∷ leaf .branch) copy) (sym (map-append leafImage (hang (leaf .literal ∷ leaf .branch) copy) rest))
+
+    pub restarted-image : (t u : Table) → copyOf (suc (y .extensions)) (u .question) ≡ map image (copyOf (suc (x .extensions)) (t .question))
+        → Image (afterRestart t x leaf rest) (afterRestart u y (leafImage leaf) (map leafImage rest))
+    unfolding leafImage
+    restarted-image t u copied = record {
+      leaves = rw copied (hung-image (copyOf (suc (x .extensions)) (t .question)));
+      pairs = i .pairs;
+      extensions = ap suc (i .extensions);
+      questions = rw (i .extensions, i .questions);
+    }
+
     leaves-image : (j : ℕ) (copy : List (Literal Variable))
         → hang (map image (leaf .literal ∷ leaf .branch)) (others j (map image copy)) ++ map leafImage rest
         ≡ map leafImage (hang (leaf .literal ∷ leaf .branch) (others j copy) ++ rest)
-    leaves-image j copy =
-        rw (← others-map image j copy, hang-image (leaf .literal ∷ leaf .branch) (others j copy))
-        (sym (map-append leafImage (hang (leaf .literal ∷ leaf .branch) (others j copy)) rest))
+    leaves-image j copy = rw (← others-map image j copy) (hung-image (others j copy))
 
     pub entered-image : (questions : List ℕ) (j : ℕ) (copy : List (Literal Variable)) (o : Option (Literal Variable))
         → Both (entered x leaf rest questions j copy o) (entered y (leafImage leaf) (map leafImage rest) questions j (map image copy) (Option·map image o))

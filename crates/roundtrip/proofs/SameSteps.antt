@@ -9,17 +9,17 @@ use native.Mathlib.Omega.{arith}
 use lib.Dec.{eqb}
 use lib.ListN.{length, drop, getD, getElem?, length-map}
 use Rattle.words.specs.declared.Step.{Step}
-use Rattle.words.specs.declared.Step.the-variants.{Reduction, Extension, Malformed}
+use Rattle.words.specs.declared.Step.the-variants.{Reduction, Extension, Restart, Malformed}
 use Rattle.table.specs.Syntax.{Term, var, app, Terms, nil, _then_, under, unders, Literal, literalUnder, Clause, Table, allClauses}
 use Rattle.rules.specs.Substitution.{Variable}
 use Rattle.rules.specs.Setting.{Profile, Setting, over}
-use Rattle.rules.specs.Tableau.{fresh, copyOf, ancestor, Leaf, Tableau, start, hang, questionsWith, extended, mayExtend, treated, stepped, Made, as-it-stands, by-step, Closed}
-use Rattle.rules.proofs.Steps.{Does, reduces, extends, does}
+use Rattle.rules.specs.Tableau.{fresh, copyOf, ancestor, Leaf, Tableau, start, hang, questionsWith, extended, mayExtend, afterRestart, mayRestart, treated, stepped, Made, as-it-stands, by-step, Closed}
+use Rattle.rules.proofs.Steps.{Does, reduces, extends, restarts, does}
 use Rattle.rules.proofs.Lists.{none-some, some-last, map-nil-back}
 use Rattle.rules.proofs.Every.{All, end, _also_, all-append, some-same}
 use Rattle.roundtrip.specs.Renumbered.{variableUses, variables, renamedTerm, renamedTerms, renamedLiteral}
 use Rattle.roundtrip.proofs.Permutations.{Permutation, numbering}
-use Rattle.roundtrip.proofs.Images.{elem-map, image, leafImage, no-pairs, Image, Both, both-some, both-some-back, hang-image, unifiable-forth, unifiable-back, ancestor-image, reduced-image, entered-image}
+use Rattle.roundtrip.proofs.Images.{elem-map, image, leafImage, no-pairs, Image, Both, both-some, both-some-back, hang-image, unifiable-forth, unifiable-back, ancestor-image, reduced-image, entered-image, restarted-image}
 
 -- the numbering of a clause's variables
 abbrev pub own : Clause → Permutation ℕ
@@ -38,6 +38,7 @@ unfoldable pub copiedBy : Table → List Step → List Clause
 copiedBy t [] = []
 copiedBy t (Reduction height ∷ ss) = copiedBy t ss
 copiedBy t (Extension i j ∷ ss) = getD (allClauses t) i (t .question) ∷ copiedBy t ss
+copiedBy t (Restart ∷ ss) = t .question ∷ copiedBy t ss
 copiedBy t (Malformed ∷ ss) = copiedBy t ss
 
 abbrev pub copiesOf : Table → List Step → List Clause
@@ -127,7 +128,9 @@ module _ (rules : Profile) (p f : Permutation ℕ) (t : Table) (bound : ℕ) (co
 
   -- one step, where the copy that it makes is the next
   abbrev Next : Tableau → Step → Type 0
-  Next x s = (i j : ℕ) (c : Clause) → s ≡ Extension i j → getElem? (allClauses t) i ≡ some c → getD copies (suc (x .extensions)) (t .question) ≡ c
+  Next x s =
+      ((i j : ℕ) (c : Clause) → s ≡ Extension i j → getElem? (allClauses t) i ≡ some c → getD copies (suc (x .extensions)) (t .question) ≡ c)
+      × (s ≡ Restart → getD copies (suc (x .extensions)) (t .question) ≡ t .question)
 
   module _ {x y : Tableau} (m : Image p f w x y) where
     extended-image : (leaf : Leaf) (rest : List Leaf) (i j : ℕ) (o : Option Clause) → ((c : Clause) → o ≡ some c → getD copies (suc (x .extensions)) (t .question) ≡ c)
@@ -146,6 +149,16 @@ module _ (rules : Profile) (p f : Permutation ℕ) (t : Table) (bound : ℕ) (co
     unfolding leafImage renamedLiteral
     sign-image leaf = rw (m .extensions)
 
+    anew-image : (leaf : Leaf) → mayRestart U (y .extensions) (leafImage p f w leaf) ≡ mayRestart S (x .extensions) leaf
+    unfolding leafImage renamedLiteral
+    anew-image leaf = rw (m .extensions)
+
+    question-copied : getD copies (suc (x .extensions)) (t .question) ≡ t .question
+        → copyOf (suc (y .extensions)) (u .question) ≡ map (image p f w) (copyOf (suc (x .extensions)) (t .question))
+    unfolding turnedTable
+    question-copied is =
+        ap (λ (n : ℕ). copyOf (suc n) (turnedClause p f (t .question))) (m .extensions) ∙ clause-copied p f (t .question) copies (suc (x .extensions)) (t .question) is
+
     branch-image : (height : ℕ) (leaf : Leaf) → ancestor height (leafImage p f w leaf .branch) ≡ Option·map (image p f w) (ancestor height (leaf .branch))
     unfolding leafImage
     branch-image height leaf = ancestor-image p f w height (leaf .branch)
@@ -160,7 +173,13 @@ module _ (rules : Profile) (p f : Permutation ℕ) (t : Table) (bound : ℕ) (co
         go : (b : Bool)
             → Both p f w (cond b (extended t x leaf rest i j (getElem? (allClauses t) i)) none)
             (cond b (extended u y (leafImage p f w leaf) (map (leafImage p f w) rest) i j (Option·map (turnedClause p f) (getElem? (allClauses t) i))) none)
-        go true = extended-image leaf rest i j (getElem? (allClauses t) i) (λ c e. h i j c refl e)
+        go true = extended-image leaf rest i j (getElem? (allClauses t) i) (λ c e. h .0 i j c refl e)
+        go false = tt
+    treated-image (leaf ∷ rest) Restart h = rw (anew-image leaf) (go (mayRestart S (x .extensions) leaf))
+      where
+        go : (b : Bool)
+            → Both p f w (cond b (some (afterRestart t x leaf rest)) none) (cond b (some (afterRestart u y (leafImage p f w leaf) (map (leafImage p f w) rest))) none)
+        go true = restarted-image p f w m leaf rest t u (question-copied (h .1 refl))
         go false = tt
     treated-image (leaf ∷ rest) Malformed h = tt
 
@@ -175,14 +194,18 @@ module _ (rules : Profile) (p f : Permutation ℕ) (t : Table) (bound : ℕ) (co
 
   follows-next : (x : Tableau) (s : Step) (ss : List Step) → Follows x (s ∷ ss) → Next x s
   unfolding copiedBy
-  follows-next x s ss h i j c e k =
-      let g : drop (suc (x .extensions)) copies ≡ getD (allClauses t) i (t .question) ∷ copiedBy t ss = rw e at h in
-      drop-head copies (suc (x .extensions)) (t .question) g ∙ getD-some (allClauses t) i (t .question) k
+  follows-next x s ss h = (
+    λ i j c e k.
+        let g : drop (suc (x .extensions)) copies ≡ getD (allClauses t) i (t .question) ∷ copiedBy t ss = rw e at h in
+        drop-head copies (suc (x .extensions)) (t .question) g ∙ getD-some (allClauses t) i (t .question) k,
+    λ e. let g : drop (suc (x .extensions)) copies ≡ t .question ∷ copiedBy t ss = rw e at h in drop-head copies (suc (x .extensions)) (t .question) g,
+  )
 
   pub follows-on : {x z : Tableau} {s : Step} (ss : List Step) → Does S x s z → Follows x (s ∷ ss) → Follows z ss
   unfolding copiedBy
   follows-on ss (reduces l a g e) h = rw (← e) h
   follows-on {x} ss (extends l b k a g e) h = rw (← e) (drop-tail copies (suc (x .extensions)) h)
+  follows-on {x} ss (restarts l b e) h = rw (← e) (drop-tail copies (suc (x .extensions)) h)
 
   pub step-image : {x y : Tableau} → Image p f w x y → (s : Step) (ss : List Step) → Follows x (s ∷ ss) → Both p f w (stepped S x s) (stepped U y s)
   step-image {x} m s ss h = stepped-image m s (follows-next x s ss h)
@@ -229,7 +252,8 @@ module _ (rules : Profile) (p f : Permutation ℕ) (t : Table) (bound : ℕ) (co
 
   does-asked : {x z : Tableau} {s : Step} (ss : List Step) → Does S x s z → Follows x (s ∷ ss) → All Asked (x .questions) → All Asked (z .questions)
   does-asked ss (reduces l a g e) h q = rw (← e) q
-  does-asked {x} ss (extends {i = i} {j = j} l b k a g e) h q = rw (← e) (asked-with x i k (follows-next x (Extension i j) ss h i j _ refl k) q)
+  does-asked {x} ss (extends {i = i} {j = j} l b k a g e) h q = rw (← e) (asked-with x i k (follows-next x (Extension i j) ss h .0 i j _ refl k) q)
+  does-asked {x} ss (restarts l b e) h q = rw (← e) (all-append q (follows-next x Restart ss h .1 refl also end))
 
   made-asked : {x z : Tableau} {ss : List Step} → Made S x ss z → Follows x ss → All Asked (x .questions) → All Asked (z .questions)
   made-asked as-it-stands h q = q

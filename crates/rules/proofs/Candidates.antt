@@ -11,16 +11,16 @@ use native.Mathlib.Decide.{decLt}
 use native.Mathlib.Omega.{arith}
 use Prim.Native.Nat.{ℕ, zero, suc, _+_, _<_}
 use Rattle.words.specs.declared.Step.{Step}
-use Rattle.words.specs.declared.Step.the-variants.{Reduction, Extension, Malformed}
+use Rattle.words.specs.declared.Step.the-variants.{Reduction, Extension, Restart, Malformed}
 use Rattle.table.specs.Syntax.{Literal, Clause, allClauses}
 use Rattle.rules.specs.Substitution.{Variable}
 use Rattle.rules.specs.Setting.{Setting}
 use Rattle.rules.specs.Tableau
-use Rattle.rules.specs.Tableau.{copyOf, fits, Leaf, Tableau, stepped, mayExtend, treated, reduced, ancestor, extended, entered, Made, Closed, as-it-stands, by-step}
+use Rattle.rules.specs.Tableau.{copyOf, fits, Leaf, Tableau, stepped, mayExtend, mayRestart, treated, reduced, ancestor, extended, entered, Made, Closed, as-it-stands, by-step}
 use Rattle.rules.specs.Order.{Precedes, Before, at-once, later, reductions, entries, extensions, candidates, candidatesAt}
 use Rattle.rules.proofs.Lists.{none-some}
-use Rattle.rules.proofs.Steps.{MayExtend, Does, reduces, extends, does}
-use Rattle.rules.proofs.Every.{All, end, all-of, all-members, Ordered, done, some-same, _ahead_, ordered-append}
+use Rattle.rules.proofs.Steps.{MayExtend, MayRestart, Does, reduces, extends, restarts, does}
+use Rattle.rules.proofs.Every.{All, end, _also_, all-of, all-members, Ordered, done, some-same, _ahead_, ordered-append}
 
 -- The steps that a list of literals offers to a leaf: one for each literal that fits, made from its place.
 unfoldable offered : (ℕ → Step) → Literal Variable → ℕ → List (Literal Variable) → List Step
@@ -185,11 +185,19 @@ module _ (S : Setting) (x : Tableau) where
   extension-candidate leaf rest i j u c a f =
       let k : 0 + i ≡ i = omega arith in
       let m = extensions-have (leaf .literal) (suc (x .extensions)) 0 (allClauses (S .table)) i j c a f in
-      Memᴰ·append-right (reductions (leaf .literal) 1 (reach leaf)) (rw (u .0, lt-ltb _ _ (u .1)) (rw k at m))
+      Memᴰ·append-right (reductions (leaf .literal) 1 (reach leaf))
+      (Memᴰ·append-right (cond (mayRestart S (x .extensions) leaf) (Restart ∷ []) []) (rw (u .0, lt-ltb _ _ (u .1)) (rw k at m)))
+
+  restart-candidate : (leaf : Leaf) (rest : List Leaf) → MayRestart S x leaf → List·Memᴰ Restart (candidatesAt S (x .extensions) (leaf ∷ rest))
+  unfolding candidatesAt
+  restart-candidate leaf rest u =
+      let m : List·Memᴰ Restart (cond (mayRestart S (x .extensions) leaf) (Restart ∷ []) []) = rw (u .0, lt-ltb _ _ (u .1)) (List·Memᴰ·head refl) in
+      Memᴰ·append-right (reductions (leaf .literal) 1 (reach leaf)) (Memᴰ·append-left _ m)
 
   does-candidate : {s : Step} {y : Tableau} → Does S x s y → List·Memᴰ s (candidatesAt S (x .extensions) (x .leaves))
   does-candidate (reduces {leaf = leaf} {rest = rest} {height = height} l a f e) = rw l (reduction-candidate leaf rest height a f)
   does-candidate (extends {leaf = leaf} {rest = rest} {i = i} {j = j} l u k a f e) = rw l (extension-candidate leaf rest i j u k a f)
+  does-candidate (restarts {leaf = leaf} {rest = rest} l u e) = rw l (restart-candidate leaf rest u)
 
   -- a candidate can be taken
   reduction-taken :
@@ -212,6 +220,20 @@ module _ (S : Setting) (x : Tableau) where
       let l : 0 + o .offer .place ≡ o .offer .place = omega arith in
       rw (o .offer .is, k, l, g, o .there, o .offer .there, o .offer .fitting) (_, refl)
 
+  restart-taken : (leaf : Leaf) (rest : List Leaf) {s : Step} → mayRestart S (x .extensions) leaf ≡ true → List·Memᴰ s (Restart ∷ [])
+      → (y : Tableau) × (treated S x (leaf ∷ rest) s ≡ some y)
+  unfolding treated
+  restart-taken leaf rest {s} g i = go (List·Memᴰ·cases-cons i)
+    where
+      go : (s ≡ Restart) ⊎ List·Memᴰ s [] → (y : Tableau) × (treated S x (leaf ∷ rest) s ≡ some y)
+      go (inl h) = rw (h, g) (_, refl)
+      go (inr j) = absurd (List·Memᴰ·not-nil j)
+
+  -- what follows the reductions: the restart and the extensions, where the leaf may have them
+  abbrev further : Leaf → Bool → Bool → List Step
+  further leaf anew entered =
+      cond anew (Restart ∷ []) [] ++ cond entered (extensions (leaf .literal) (suc (x .extensions)) 0 (allClauses (S .table))) []
+
   candidate-taken : (leaves : List Leaf) {s : Step} → List·Memᴰ s (candidatesAt S (x .extensions) leaves) → (y : Tableau) × (treated S x leaves s ≡ some y)
   unfolding candidatesAt
   candidate-taken [] i = absurd (List·Memᴰ·not-nil i)
@@ -223,20 +245,48 @@ module _ (S : Setting) (x : Tableau) where
       within true g j = extension-taken leaf rest g j
       within false g j = absurd (List·Memᴰ·not-nil j)
 
-      go : List·Memᴰ s (reductions (leaf .literal) 1 (reach leaf)) ⊎ List·Memᴰ s (cond (mayExtend S (x .extensions) leaf) (extensions (leaf .literal) (suc (x .extensions)) 0 (allClauses (S .table))) [])
+      anew : (b : Bool) → mayRestart S (x .extensions) leaf ≡ b → List·Memᴰ s (cond b (Restart ∷ []) [])
+          → (y : Tableau) × (treated S x (leaf ∷ rest) s ≡ some y)
+      anew true g j = restart-taken leaf rest g j
+      anew false g j = absurd (List·Memᴰ·not-nil j)
+
+      onward : List·Memᴰ s (cond (mayRestart S (x .extensions) leaf) (Restart ∷ []) []) ⊎ List·Memᴰ s (cond (mayExtend S (x .extensions) leaf) (extensions (leaf .literal) (suc (x .extensions)) 0 (allClauses (S .table))) [])
+          → (y : Tableau) × (treated S x (leaf ∷ rest) s ≡ some y)
+      onward (inl j) = anew (mayRestart S (x .extensions) leaf) refl j
+      onward (inr j) = within (mayExtend S (x .extensions) leaf) refl j
+
+      go : List·Memᴰ s (reductions (leaf .literal) 1 (reach leaf)) ⊎ List·Memᴰ s (further leaf (mayRestart S (x .extensions) leaf) (mayExtend S (x .extensions) leaf))
           → (y : Tableau) × (treated S x (leaf ∷ rest) s ≡ some y)
       go (inl j) = reduction-taken leaf rest j
-      go (inr j) = within (mayExtend S (x .extensions) leaf) refl j
+      go (inr j) = onward (List·Memᴰ·append-cases (cond (mayRestart S (x .extensions) leaf) (Restart ∷ []) []) j)
 
   -- the candidates stand in the stated order, so none is there twice
-  reductions-first : (leaf : Leaf) (cs : List Clause) → All (λ s. All (Precedes s) (extensions (leaf .literal) (suc (x .extensions)) 0 cs)) (reductions (leaf .literal) 1 (reach leaf))
+  before-extensions : (leaf : Leaf) (s : Step) → ((i j : ℕ) → Precedes s (Extension i j)) → (entered : Bool) → All (Precedes s) (further leaf false entered)
+  before-extensions leaf s before false = end
+  before-extensions leaf s before true =
+      all-members _ λ r j.
+      let q : Entry (leaf .literal) (suc (x .extensions)) 0 (allClauses (S .table)) r = extensions-are (leaf .literal) (suc (x .extensions)) 0 (allClauses (S .table)) j in
+      rw (q .offer .is) (before _ _)
+
+  before-further : (leaf : Leaf) (h : ℕ) (anew entered : Bool) → All (Precedes (Reduction h)) (further leaf anew entered)
   unfolding Precedes
-  reductions-first leaf cs =
+  before-further leaf h false entered = before-extensions leaf (Reduction h) (λ i j. tt) entered
+  before-further leaf h true entered = tt also before-extensions leaf (Reduction h) (λ i j. tt) entered
+
+  reductions-first : (leaf : Leaf) (anew entered : Bool) → All (λ s. All (Precedes s) (further leaf anew entered)) (reductions (leaf .literal) 1 (reach leaf))
+  reductions-first leaf anew entered =
       all-members _ λ s i.
       let o : Offer Reduction (leaf .literal) 1 (reach leaf) s = offered-is Reduction (leaf .literal) 1 (reach leaf) (rw reductions-offered at i) in
-      all-members _ λ r j.
-      let q : Entry (leaf .literal) (suc (x .extensions)) 0 cs r = extensions-are (leaf .literal) (suc (x .extensions)) 0 cs j in
-      rw (o .is, q .offer .is) tt
+      rw (o .is) (before-further leaf (1 + o .place) anew entered)
+
+  entered-ordered : (leaf : Leaf) (entered : Bool) → Ordered Precedes (further leaf false entered)
+  entered-ordered leaf false = done
+  entered-ordered leaf true = extensions-ordered (leaf .literal) (suc (x .extensions)) 0 (allClauses (S .table))
+
+  further-ordered : (leaf : Leaf) (anew entered : Bool) → Ordered Precedes (further leaf anew entered)
+  unfolding Precedes
+  further-ordered leaf false entered = entered-ordered leaf entered
+  further-ordered leaf true entered = before-extensions leaf Restart (λ i j. tt) entered ahead entered-ordered leaf entered
 
   reductions-ordered : (leaf : Leaf) → Ordered Precedes (reductions (leaf .literal) 1 (reach leaf))
   unfolding Precedes
@@ -245,11 +295,10 @@ module _ (S : Setting) (x : Tableau) where
   candidates-ordered-at : (leaves : List Leaf) → Ordered Precedes (candidatesAt S (x .extensions) leaves)
   unfolding candidatesAt
   candidates-ordered-at [] = done
-  candidates-ordered-at (leaf ∷ rest) = go (mayExtend S (x .extensions) leaf)
+  candidates-ordered-at (leaf ∷ rest) = go (mayRestart S (x .extensions) leaf) (mayExtend S (x .extensions) leaf)
     where
-      go : (b : Bool) → Ordered Precedes (reductions (leaf .literal) 1 (reach leaf) ++ cond b (extensions (leaf .literal) (suc (x .extensions)) 0 (allClauses (S .table))) [])
-      go true = ordered-append (reductions-ordered leaf) (extensions-ordered (leaf .literal) (suc (x .extensions)) 0 (allClauses (S .table))) (reductions-first leaf (allClauses (S .table)))
-      go false = ordered-append (reductions-ordered leaf) done (all-of (λ s. end) _)
+      go : (anew entered : Bool) → Ordered Precedes (reductions (leaf .literal) 1 (reach leaf) ++ further leaf anew entered)
+      go anew entered = ordered-append (reductions-ordered leaf) (further-ordered leaf anew entered) (reductions-first leaf anew entered)
 
   pub candidate-steps : {s : Step} → List·Memᴰ s (candidates S x) → (y : Tableau) × (stepped S x s ≡ some y)
   unfolding candidates stepped
@@ -269,16 +318,23 @@ unfolding Precedes
 precedes-not-itself (Reduction h) p = omega arith
 precedes-not-itself (Extension i j) (inl p) = omega arith
 precedes-not-itself (Extension i j) (inr p) = omega arith
+precedes-not-itself Restart p = p
 precedes-not-itself Malformed p = p
 
 pub precedes-through : (r s t : Step) → Precedes r s → Precedes s t → Precedes r t
 unfolding Precedes
 precedes-through (Reduction h) (Reduction k) (Reduction l) p q = omega arith
 precedes-through (Reduction h) (Reduction k) (Extension i j) p q = tt
+precedes-through (Reduction h) (Reduction k) Restart p q = tt
 precedes-through (Reduction h) (Reduction k) Malformed p q = q
 precedes-through (Reduction h) (Extension i j) (Reduction l) p q = absurd q
 precedes-through (Reduction h) (Extension i j) (Extension k l) p q = tt
+precedes-through (Reduction h) (Extension i j) Restart p q = tt
 precedes-through (Reduction h) (Extension i j) Malformed p q = q
+precedes-through (Reduction h) Restart (Reduction l) p q = absurd q
+precedes-through (Reduction h) Restart (Extension k l) p q = tt
+precedes-through (Reduction h) Restart Restart p q = tt
+precedes-through (Reduction h) Restart Malformed p q = q
 precedes-through (Reduction h) Malformed t p q = absurd p
 precedes-through (Extension i j) (Reduction h) t p q = absurd p
 precedes-through (Extension i j) (Extension k l) (Reduction h) p q = q
@@ -286,8 +342,17 @@ precedes-through (Extension i j) (Extension k l) (Extension m n) (inl p) (inl q)
 precedes-through (Extension i j) (Extension k l) (Extension m n) (inl p) (inr q) = inl (omega arith)
 precedes-through (Extension i j) (Extension k l) (Extension m n) (inr p) (inl q) = inl (omega arith)
 precedes-through (Extension i j) (Extension k l) (Extension m n) (inr p) (inr q) = inr (omega arith, omega arith)
+precedes-through (Extension i j) (Extension k l) Restart p q = q
 precedes-through (Extension i j) (Extension k l) Malformed p q = q
+precedes-through (Extension i j) Restart t p q = absurd p
 precedes-through (Extension i j) Malformed t p q = absurd p
+precedes-through Restart (Reduction h) t p q = absurd p
+precedes-through Restart (Extension i j) (Reduction h) p q = q
+precedes-through Restart (Extension i j) (Extension k l) p q = tt
+precedes-through Restart (Extension i j) Restart p q = q
+precedes-through Restart (Extension i j) Malformed p q = q
+precedes-through Restart Restart t p q = absurd p
+precedes-through Restart Malformed t p q = absurd p
 precedes-through Malformed s t p q = absurd p
 
 pub data Compared {A : Type 0} (R : A → A → Type 0) (a b : A) : Type 0 where
@@ -328,6 +393,12 @@ steps-compared S x (Extension i j) (Extension k l) e f = go (numbers-compared i 
     go (same p) (same q) = same (rw (p, q))
     go (same p) (more q) = more (inr (sym p, q))
     go (more p) q = more (inl p)
+steps-compared S x (Reduction h) Restart e f = less tt
+steps-compared S x (Extension i j) Restart e f = more tt
+steps-compared S x Restart (Reduction h) e f = more tt
+steps-compared S x Restart (Extension i j) e f = less tt
+steps-compared S x Restart Restart e f = same refl
+steps-compared S x Restart Malformed e f = absurd (malformed-not-taken S x (x .leaves) f)
 steps-compared S x (Reduction h) Malformed e f = absurd (malformed-not-taken S x (x .leaves) f)
 steps-compared S x (Extension i j) Malformed e f = absurd (malformed-not-taken S x (x .leaves) f)
 steps-compared S x Malformed s e f = absurd (malformed-not-taken S x (x .leaves) e)

@@ -1,4 +1,5 @@
--- Document 01's questions to try, 1 to 11, cases 5 and 8 as checks (order 5), and one question more, as one equation between lists, closed by computation over files of words.
+-- Document 01's questions to try, 1 to 11, cases 5 and 8 as checks (order 5), one question more, and case 1 with restarts (order 11), as one equation
+-- between lists, closed by computation over files of words.
 use lib.Dec.{eqb}
 use lib.ListN.{length}
 use mathlib.Core.Bool.{cond}
@@ -16,13 +17,13 @@ use Rattle.table.specs.Decode.{tableOf}
 use Rattle.table.specs.File.{bodyOf, sizeFits, trailerFits, fingerprintFits, clausesFit, judgeRead, judgeBody, judge}
 use Rattle.table.proofs.Opened.{opened}
 use Rattle.rules.specs.Machinery.Unify.{replace, solution, through, follow, occurs, after, unlessOccurs, bind, unlessSame, sameSymbol, ifSame, meetBy, eachBy, compareWithin, height, variables, heightOf, variablesOf, doubled, enough, unifies, meet, unify}
-use Rattle.rules.specs.Setting.{Setting, base}
+use Rattle.rules.specs.Setting.{Profile, everyLeaf, oneWay, readSteps, Setting, over, base}
 use Rattle.rules.specs.Tableau.{fresh, copyOf, atom, fits, hang, start, ancestor, others, closing, reduced, questionsWith, entered, extended, treated, stepped, Closed}
 use Rattle.rules.specs.Order.{Before, reductions, entries, extensions, candidatesAt, candidates, allClosed}
 use Rattle.rules.specs.Answer.{positive, disjunct, perCopy, sameTerm, sameLiteral, sameDisjunct, seenBy, firstsAfterBy, firstsBy, placeBy, disjuncts, occurring, occurringAll, numbered, joined, answerWords}
 use Rattle.rules.specs.Verdict.{statusOf, SearchVerdict, finds, finds-none, runs-out}
 use Rattle.rules.specs.Machinery.Run as Run
-use Rattle.rules.specs.Machinery.Play.{begin, boundBy, newest, performed, perform, Checking, passed, stopped, atEnd, refusal, onwards, checkFrom, check, checked, afterwards, mostAdded, stepsLeft, reported, searchFor, answerOf, disjunctsOf}
+use Rattle.rules.specs.Machinery.Play.{begin, boundBy, newest, performed, perform, Checking, passed, stopped, atEnd, refusal, onwards, checkFrom, check, checked, afterwards, mostAdded, mostMore, stepsLeft, reported, searchFor, answerOf, disjunctsOf}
 use Rattle.rules.proofs.System.Clash.{clash}
 use Rattle.rules.proofs.Demands.{none-exactly, found-is-first}
 
@@ -57,20 +58,28 @@ searched S (finds steps tries) = with-answer (S .table) (map encoded steps) trie
 searched S (finds-none tries) = without 10 tries
 searched S (runs-out tries) = without 11 tries
 
-abbrev pub asked : Table → Call → Returned
-asked t (search bound budget) = searched (base t bound) (searchFor (base t bound) budget)
-asked t (checking bound proof) = with-answer t proof 0 (check (base t bound) (map stepOf proof))
+abbrev pub asked : Profile → Table → Call → Returned
+asked rules t (search bound budget) = searched (over rules t bound) (searchFor (over rules t bound) budget)
+asked rules t (checking bound proof) = with-answer t proof 0 (check (over rules t bound) (readSteps rules proof))
 
 -- a file is judged before anything is asked of it
-abbrev pub judged : Judgement → List ℕ → Call → Returned
-judged j file call = cond (eqb (j .status) 0) (asked (tableOf (bodyOf file)) call) (refusedAt (j .status) (j .place))
+abbrev pub judged : Profile → Judgement → List ℕ → Call → Returned
+judged rules j file call = cond (eqb (j .status) 0) (asked rules (tableOf (bodyOf file)) call) (refusedAt (j .status) (j .place))
 
 pub record Question : Type 0 where
+  pub rules : Profile
   pub file : List ℕ
   pub call : Call
 
 abbrev pub returned : Question → Returned
-returned q = judged (judge (q .file)) (q .file) (q .call)
+returned q = judged (q .rules) (judge (q .file)) (q .file) (q .call)
+
+-- under document 01's rules, and under order 11's
+abbrev pub by-base : List ℕ → Call → Question
+by-base file call = record { rules = everyLeaf; file = file; call = call }
+
+abbrev pub one-way : List ℕ → Call → Question
+one-way file call = record { rules = oneWay; file = file; call = call }
 
 -- a body with its trailer: where the question begins, the number of clauses, the fingerprint, the body's length
 abbrev pub whole : ℕ → ℕ → List ℕ → List ℕ
@@ -131,25 +140,46 @@ ample = 4294967295
 
 abbrev pub questions : List Question
 questions =
-    record { file = mat-or-eve; call = search 2 3 }
-    ∷ record { file = mat-or-eve; call = search 1 ample }
-    ∷ record { file = mat-or-eve; call = search 0 0 }
-    ∷ record { file = mat-or-eve; call = search 2 2 }
-    ∷ record { file = own-mother; call = search 1 ample }
-    ∷ record { file = other-time; call = search 1 ample }
-    ∷ record { file = two-terms; call = search 1 ample }
-    ∷ record { file = three-terms; call = search 1 ample }
-    ∷ record { file = by-reduction; call = search 2 ample }
-    ∷ record { file = by-reduction; call = search 1 ample }
-    ∷ record { file = mat-or-eve; call = checking 2 (0x40000000 ∷ 0x40000001 ∷ 0x00000001 ∷ []) }
-    ∷ record { file = mat-or-eve; call = checking 2 (0x40000000 ∷ []) }
-    ∷ record { file = mat-or-eve; call = checking 2 (0x80000000 ∷ []) }
-    ∷ record { file = other-time; call = checking 1 (0x40000000 ∷ []) }
-    ∷ record { file = own-mother; call = checking 1 (0x40000000 ∷ []) }
-    ∷ record { file = three-terms; call = checking 1 (0x40000000 ∷ []) }
-    ∷ record { file = all-at-once; call = search 5 ample }
-    ∷ record { file = all-at-once; call = search 4 ample }
+    by-base mat-or-eve (search 2 3)
+    ∷ by-base mat-or-eve (search 1 ample)
+    ∷ by-base mat-or-eve (search 0 0)
+    ∷ by-base mat-or-eve (search 2 2)
+    ∷ by-base own-mother (search 1 ample)
+    ∷ by-base other-time (search 1 ample)
+    ∷ by-base two-terms (search 1 ample)
+    ∷ by-base three-terms (search 1 ample)
+    ∷ by-base by-reduction (search 2 ample)
+    ∷ by-base by-reduction (search 1 ample)
+    ∷ by-base mat-or-eve (checking 2 (0x40000000 ∷ 0x40000001 ∷ 0x00000001 ∷ []))
+    ∷ by-base mat-or-eve (checking 2 (0x40000000 ∷ []))
+    ∷ by-base mat-or-eve (checking 2 (0x80000000 ∷ []))
+    ∷ by-base other-time (checking 1 (0x40000000 ∷ []))
+    ∷ by-base own-mother (checking 1 (0x40000000 ∷ []))
+    ∷ by-base three-terms (checking 1 (0x40000000 ∷ []))
+    ∷ by-base all-at-once (search 5 ample)
+    ∷ by-base all-at-once (search 4 ample)
+    -- order 11: restarted within the bound; none with one extension; accepted; a positive leaf extended, a negative one restarted, restarted past the
+    -- bound, and a word of kind 2 that is no restart
+    ∷ one-way mat-or-eve (search 2 ample)
+    ∷ one-way mat-or-eve (search 1 ample)
+    ∷ one-way mat-or-eve (checking 2 (0x40000000 ∷ 0x80000000 ∷ 0x00000001 ∷ []))
+    ∷ one-way mat-or-eve (checking 2 (0x40000000 ∷ 0x40000001 ∷ []))
+    ∷ one-way mat-or-eve (checking 2 (0x80000000 ∷ []))
+    ∷ one-way mat-or-eve (checking 1 (0x40000000 ∷ 0x80000000 ∷ []))
+    ∷ one-way mat-or-eve (checking 2 (0x80000001 ∷ []))
     ∷ []
+
+-- "matinee, or evening", by a restart
+abbrev pub restarted : ℕ → Returned
+restarted tries =
+    record {
+      status = 0;
+      place = 0;
+      proof = 0x40000000 ∷ 0x80000000 ∷ 0x00000001 ∷ [];
+      disjuncts = 2;
+      answer = 0x80002001 ∷ 0x40000001 ∷ 0x40000002 ∷ 0x80002001 ∷ 0x40000001 ∷ 0x40000003 ∷ [];
+      tries = tries;
+    }
 
 abbrev pub expected : List Returned
 expected =
@@ -202,10 +232,17 @@ expected =
       tries = 6;
     }
     ∷ without 10 10
+    ∷ restarted 4
+    ∷ without 10 4
+    ∷ restarted 0
+    ∷ refusedAt 13 1
+    ∷ refusedAt 13 0
+    ∷ refusedAt 13 1
+    ∷ refusedAt 12 0
     ∷ []
 
 unfoldable pub played : Unit {0}
-unfolding opened product mixed fnv wordBytes bytesOf wellFormed stepWord encoded stepOf sizeFits trailerFits fingerprintFits clausesFit judgeRead judgeBody judge under literalUnder replace solution through follow occurs after unlessOccurs bind unlessSame sameSymbol ifSame meetBy eachBy compareWithin height variables heightOf variablesOf doubled enough unifies meet unify fresh copyOf atom fits hang start ancestor others closing reduced questionsWith entered extended treated stepped reductions entries extensions candidatesAt candidates positive disjunct perCopy sameTerm sameLiteral sameDisjunct seenBy firstsAfterBy firstsBy placeBy disjuncts occurring occurringAll numbered joined answerWords Run.put Run.after Run.spend Run.enter Run.inTurn Run.visit Run.search begin boundBy newest performed perform atEnd refusal onwards checkFrom check checked afterwards allClosed mostAdded stepsLeft reported searchFor answerOf disjunctsOf
+unfolding opened product mixed fnv wordBytes bytesOf wellFormed stepWord encoded stepOf sizeFits trailerFits fingerprintFits clausesFit judgeRead judgeBody judge under literalUnder replace solution through follow occurs after unlessOccurs bind unlessSame sameSymbol ifSame meetBy eachBy compareWithin height variables heightOf variablesOf doubled enough unifies meet unify fresh copyOf atom fits hang start ancestor others closing reduced questionsWith entered extended treated stepped reductions entries extensions candidatesAt candidates positive disjunct perCopy sameTerm sameLiteral sameDisjunct seenBy firstsAfterBy firstsBy placeBy disjuncts occurring occurringAll numbered joined answerWords Run.put Run.after Run.spend Run.enter Run.inTurn Run.visit Run.search begin boundBy newest performed perform atEnd refusal onwards checkFrom check checked afterwards allClosed mostAdded mostMore stepsLeft reported searchFor answerOf disjunctsOf
 played = tt
 
 -- the starred cases

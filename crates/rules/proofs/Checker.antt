@@ -1,21 +1,22 @@
 -- The checker comes to the one verdict that document 01 gives, and accepts exactly the closed tableaux.
+use mathlib.Core.Bool.{Bool, true, false}
 use mathlib.Core.List.{List, [], _∷_}
 use mathlib.Core.Option.{none, some}
 use mathlib.Core.Path.{_≡_, refl, ap}
 use Prim.Native.Nat.{ℕ, suc}
 use Rattle.words.specs.declared.Step.{Step}
-use Rattle.words.specs.declared.Step.the-variants.{Reduction, Extension, Malformed}
+use Rattle.words.specs.declared.Step.the-variants.{Reduction, Extension, Restart, Malformed}
 use Rattle.table.specs.Syntax.{var}
-use Rattle.rules.specs.Substitution.{Substitution, Solves, Unifiable}
+use Rattle.rules.specs.Substitution.{Substitution, Pair, Solves, Unifiable}
 use Rattle.rules.specs.Setting.{Setting}
 use Rattle.rules.specs.Tableau.{Leaf, Tableau, start, stepped, Made, as-it-stands, by-step, Closed}
 use Rattle.rules.specs.Comparison.{Reason}
 use Rattle.rules.specs.Verdict.{not-unified, CheckVerdict, accepted, refused, Checks, no-leaf, some-leaf, no-step, no-tableau, no-unifier, taken}
-use Rattle.rules.specs.Machinery.Play.{Play, begin, Performed, goes-on, not-possible, clashes, circular, perform, Checking, passed, stopped, atEnd, refusal, onwards, checkFrom, check, checked}
+use Rattle.rules.specs.Machinery.Play.{Play, begin, Performed, goes-on, not-possible, clashes, circular, closesPair, perform, Checking, passed, stopped, atEnd, refusal, onwards, checkFrom, check, checked}
 use Rattle.rules.proofs.System.Clash.{clash}
 use Rattle.rules.proofs.Candidates.{malformed-not-taken}
 use Rattle.rules.proofs.Comparison.{one-reason-of-the-newest, newest-not-unifiable}
-use Rattle.rules.proofs.Play.{Sound, sound-begin, unifiable, stepped-one-more, Told, told}
+use Rattle.rules.proofs.Play.{Sound, sound-begin, unifiable, Adds, stepped-adds, Told, told}
 
 module _ (S : Setting) where
   ends : (p : Play) (place : ℕ) (leaves : List Leaf) → p .tableau .leaves ≡ leaves → Checks S (p .tableau) place [] (checked (atEnd p place leaves))
@@ -27,6 +28,7 @@ module _ (S : Setting) where
   unfolding refusal
   refuses p (Reduction h) ss place e = no-tableau (λ (f : Reduction h ≡ Malformed). clash (cc)) e
   refuses p (Extension i j) ss place e = no-tableau (λ (f : Extension i j ≡ Malformed). clash (cc)) e
+  refuses p Restart ss place e = no-tableau (λ (f : Restart ≡ Malformed). clash (cc)) e
   refuses p Malformed ss place e = no-step
 
   goes : (p : Play) (s : Step) (ss : List Step) (place : ℕ) (o : Performed) → Told S p s o
@@ -76,14 +78,16 @@ module _ (S : Setting) where
   one-verdict (taken {y = y} e u c) (no-unifier {y = z} f v) = let h : y ≡ z = cc in absurd (newest-not-unifiable v (rw h at u))
   one-verdict (taken {y = y} e u c) (taken {y = z} f v d) = let h : z ≡ y = cc in one-verdict c (rw h at d)
 
+  added-solved : (σ : Substitution) (b : Bool) (before after : List Pair) → Adds b before after → Solves σ after → Solves σ before
+  unfolding Solves
+  added-solved σ true before after a u = (rw (a .1) at u) .1
+  added-solved σ false before after a u = rw a at u
+
   -- a solution of the pairs of a later tableau solves those of an earlier one
   pub earlier-solved : {x z : Tableau} {ss : List Step} (σ : Substitution) → Made S x ss z → Solves σ (z .pairs) → Solves σ (x .pairs)
-  unfolding Solves
   earlier-solved σ as-it-stands u = u
-  earlier-solved {x} σ (by-step {s = s} e m) u =
-      let f = stepped-one-more S x s e in
-      let v : Solves σ (f .0 ∷ x .pairs) = rw (f .1) at (earlier-solved σ m u) in
-      v .1
+  earlier-solved {x} σ (by-step {y = y} {s = s} e m) u =
+      added-solved σ (closesPair s) (x .pairs) (y .pairs) (stepped-adds S x s e) (earlier-solved σ m u)
 
   -- the steps of a closed tableau are accepted, and what is accepted is closed
   pub made-accepted : {x z : Tableau} {ss : List Step} (place : ℕ) → Made S x ss z → z .leaves ≡ [] → Unifiable (z .pairs)

@@ -7,7 +7,7 @@ use Prim.Native.Nat.{ℕ, _≤_}
 use Rattle.words.specs.declared.Step.{Step}
 use Rattle.table.specs.Syntax.{Table, allClauses}
 use Rattle.rules.specs.Substitution.{Substitution, Solves}
-use Rattle.rules.specs.Setting.{Profile, Setting, over}
+use Rattle.rules.specs.Setting.{Profile, longestProof, Setting, over}
 use Rattle.rules.specs.Tableau.{Closed}
 use Rattle.rules.specs.Answer.{disjuncts, answerWords}
 use Rattle.rules.specs.Truth.{Interpretation, AllNegative, AllHold, AnswerHolds}
@@ -16,17 +16,17 @@ use Rattle.rules.specs.Reordered.{SameTable}
 use Rattle.rules.proofs.Answer.{numberedDisjuncts}
 use Rattle.rules.proofs.Locality.{same-words}
 use Rattle.rules.proofs.Growing.{raised, raised-tableau, grown, grown-tableau}
-use Rattle.rules.proofs.Lengths.{InRange, at-most-199, steps-in-range}
+use Rattle.rules.proofs.Lengths.{InRange, at-most-longest, steps-in-range}
 use Rattle.rules.proofs.Lists.{All}
 use Rattle.rules.proofs.Reordered.{reordered-closed}
 use Rattle.rules.proofs.Truth.{answer-holds, numbered-holds}
 
--- A proof has at most 199 steps, where clauses have at most 7 literals and the bound is at most 32.
+-- A proof has at most 199 steps, or 231 where leaves are restarted, where clauses have at most 7 literals and the bound is at most 32.
 pub proof-length : (S : Setting) → All (λ c. length (c .literals) ≤ 7) (allClauses (S .table)) → {steps : List Step} → S .bound ≤ 32
-    → Closed S steps → length steps ≤ 199
-proof-length = at-most-199
+    → Closed S steps → length steps ≤ longestProof (S .profile)
+proof-length = at-most-longest
 
--- No step of it is malformed; heights are 1 to the bound, clauses and literals are the table's.
+-- No step of it is malformed, none a restart where no leaf is restarted; heights are 1 to the bound, clauses and literals are the table's.
 pub step-numbers : (S : Setting) → All (λ c. length (c .literals) ≤ 7) (allClauses (S .table)) → {steps : List Step}
     → Closed S steps → All (InRange S) steps
 step-numbers = steps-in-range

@@ -28,7 +28,7 @@ use Rattle.rules.proofs.Instances.{Instance, instance, opposite}
 use Rattle.rules.proofs.Lifting.{treeUnder, tree-questions}
 use Rattle.rules.proofs.Lists.{none-some, last-or-before}
 use Rattle.rules.proofs.Refuted.{oneTrue, HungTrue, tree-false}
-use Rattle.rules.proofs.Trees.{Tree, bare, reduction, extension, asked, InstanceTree}
+use Rattle.rules.proofs.Trees.{Tree, bare, reduction, extension, restart, asked, InstanceTree}
 use Rattle.rules.proofs.Truth.{disjunctOf, disjuncts-instances}
 use Rattle.rules.proofs.Valuations.{turned-not}
 
@@ -59,6 +59,7 @@ module _ (ρ : Variable → Ground) (t : Table) where
   hung bare = []
   hung (reduction h a below) = hung below
   hung (extension i j θ u c a e below) = withHung (which i c) θ (hung below)
+  hung (restart θ u e below) = hung below
 
   module _ (v : Valuation ⊥) where
     abbrev isTrue : Literal Variable → Bool
@@ -91,12 +92,13 @@ module _ (ρ : Variable → Ground) (t : Table) where
 
     all-true : {rules : Profile} {ls : List Leaf} (tree : Tree rules t ls) → InstancesTrue v (hung tree)
         → QuestionsTrue v (t .question) (map grounded (asked tree)) → HungTrue isTrue tree
-    unfolding hung asked HungTrue
+    unfolding hung asked HungTrue Each
     all-true bare a b = tt
     all-true (reduction h e below) a b = all-true below a b
     all-true (extension i j θ u c e eq below) a b =
         let k = hung-true i θ (asked below) (hung below) (which i c) a b in
         (k .0, all-true below (k .1) (k .2))
+    all-true (restart θ u eq below) a b = (true-instance θ (t .question) ∙ b .0, all-true below a (b .1))
 
   each-true : (v : Valuation ⊥) → AllInstancesTrue v (t .clauses) → (is : List (InstanceOf (t .clauses))) → InstancesTrue v is
   unfolding Each

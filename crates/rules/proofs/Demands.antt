@@ -7,14 +7,14 @@ use mathlib.Core.Path.{_≡_, refl, sym, _∙_, ap, ap₂}
 use native.Mathlib.Decide.{decLt}
 use native.Mathlib.Omega.{arith}
 use Prim.Native.Nat.{ℕ, _≤_, _<_}
-use Rattle.words.specs.Steps.{wellFormed, encoded, stepOf}
+use Rattle.words.specs.Steps.{wellFormed, encoded}
 use Rattle.words.specs.declared.Step.{Step}
-use Rattle.words.specs.declared.Step.the-variants.{Reduction, Extension, Malformed}
+use Rattle.words.specs.declared.Step.the-variants.{Reduction, Extension, Restart, Malformed}
 use Rattle.words.proofs.Roundtrip.{decode-encoded}
 use Rattle.table.specs.Limits.{Each, ClauseWithin}
 use Rattle.table.specs.Syntax.{app, nil, literalUnder, Clause, Table, allClauses}
 use Rattle.rules.specs.Machinery.Unify.{solution}
-use Rattle.rules.specs.Setting.{Setting, everyLeaf, over, base}
+use Rattle.rules.specs.Setting.{everyLeaf, restarting, readStep, readSteps, Setting, over, base}
 use Rattle.rules.specs.Tableau.{start, Closed}
 use Rattle.rules.specs.Order.{Ending, found, nothing, Searched}
 use Rattle.rules.specs.Locality.{renumbered}
@@ -45,7 +45,7 @@ use Rattle.rules.proofs.Contradictions.{closed-evidence, closed-asks, a
 
 -- the checker
 pub checker-follows-the-rules : Demands.CheckerFollowsTheRules
-checker-follows-the-rules S proof = checker-says S (map stepOf proof)
+checker-follows-the-rules S proof = checker-says S (readSteps (S .profile) proof)
 
 pub one-check-verdict : Demands.OneCheckVerdict
 one-check-verdict S steps c d = one-verdict S
@@ -69,8 +69,8 @@ module _ (S : Setting) (steps : List Step) where
 
 pub accepts-exactly-the-closed : Demands.AcceptsExactlyTheClosed
 accepts-exactly-the-closed S proof = (
-  λ a. passed-closed S (map stepOf proof) (a .0) (a .1) .0,
-  λ c. let p = closed-passed S (map stepOf proof) c in (p .0, p .1),
+  λ a. passed-closed S (readSteps (S .profile) proof) (a .0) (a .1) .0,
+  λ c. let p = closed-passed S (readSteps (S .profile) proof) c in (p .0, p .1),
 )
 
 -- the search
@@ -197,15 +197,16 @@ short-clauses (c ∷ cs) l = (l .0 .few, short-clauses cs (l .1))
 pub proof-is-short : Demands.ProofIsShort
 proof-is-short S limits b steps c = proof-length S (short-clauses (allClauses (S .table)) (limits .clauses)) b c
 
-in-range-words : (S : Setting) → length (allClauses (S .table)) ≤ 512 → S .bound ≤ 32 → (s : Step) → InRange S s → stepOf (encoded s) ≡ s
+in-range-words : (S : Setting) → length (allClauses (S .table)) ≤ 512 → S .bound ≤ 32 → (s : Step) → InRange S s → readStep (S .profile) (encoded s) ≡ s
 unfolding wellFormed
 in-range-words S few b (Reduction h) r =
-    decode-encoded (Reduction h) ∙ rw (le-leb 1 h (r .0), le-leb h 63 (omega arith))
+    decode-encoded (restarting (S .profile)) (Reduction h) ∙ rw (le-leb 1 h (r .0), le-leb h 63 (omega arith))
 in-range-words S few b (Extension i j) r =
-    decode-encoded (Extension i j) ∙ rw (lt-ltb i 512 (omega arith), lt-ltb j 8 (omega arith))
+    decode-encoded (restarting (S .profile)) (Extension i j) ∙ rw (lt-ltb i 512 (omega arith), lt-ltb j 8 (omega arith))
+in-range-words S few b Restart r = decode-encoded (restarting (S .profile)) Restart ∙ rw r
 in-range-words S few b Malformed r = absurd r
 
-all-words : (S : Setting) → length (allClauses (S .table)) ≤ 512 → S .bound ≤ 32 → (ss : List Step) → All (InRange S) ss → map stepOf (map encoded ss) ≡ ss
+all-words : (S : Setting) → length (allClauses (S .table)) ≤ 512 → S .bound ≤ 32 → (ss : List Step) → All (InRange S) ss → readSteps (S .profile) (map encoded ss) ≡ ss
 unfolding All
 all-words S few b [] a = refl
 all-words S few b (s ∷ ss) a = ap₂ _∷_ (in-range-words S few b s (a .0)) (all-words S few b ss (a .1))

@@ -9,11 +9,11 @@ use Rattle.words.specs.declared.Step.{Step}
 use Rattle.table.specs.Syntax.{Clause, Table, allClauses}
 use Rattle.rules.specs.Setting.{Profile, over}
 use Rattle.rules.specs.Tableau.{Tableau, stepped, Made, as-it-stands, by-step, Closed}
-use Rattle.rules.specs.Machinery.Play.{Play, begin, Performed, goes-on, not-possible, clashes, circular, performed, perform, Checking, passed, onwards, checkFrom, check}
+use Rattle.rules.specs.Machinery.Play.{Play, begin, Performed, goes-on, not-possible, clashes, circular, closesPair, performed, perform, Checking, passed, onwards, checkFrom, check}
 use Rattle.rules.specs.Locality.{SameCopied}
 use Rattle.rules.specs.Growing.{Inserted, at-end, kept, added, along, Larger, moved}
 use Rattle.rules.proofs.Locality.{local-closed, local-tableau}
-use Rattle.rules.proofs.Steps.{Does, reduces, extends, does, done}
+use Rattle.rules.proofs.Steps.{Does, reduces, extends, restarts, does, done}
 use Rattle.rules.proofs.System.Clash.{clash}
 
 along-same : {cs ds : List Clause} (r : Inserted cs ds) (last : Clause) (i : ℕ)
@@ -43,6 +43,7 @@ module _ {rules : Profile} {t : Table} {small large : ℕ} (h : small ≤ large)
   raised-does : {x y : Tableau} {s : Step} → Does (over rules t small) x s y → Does (over rules t large) x s y
   raised-does (reduces l a f e) = reduces l a f e
   raised-does (extends l b c a f e) = extends l (b .0, omega arith) c a f e
+  raised-does (restarts l b e) = restarts l (b .0, omega arith) e
 
   raised-made : {x z : Tableau} {ss : List Step} → Made (over rules t small) x ss z → Made (over rules t large) x ss z
   raised-made as-it-stands = as-it-stands
@@ -73,7 +74,8 @@ module _ (rules : Profile) (t : Table) {small large : ℕ} (h : small ≤ large)
   raised-onwards circular s place next after k e = clash (cc)
 
   raised-performed : (p : Play) (s : Step) (place : ℕ) (next : Play → Checking) (o : Option Tableau) → stepped (over rules t small) (p .tableau) s ≡ o
-      → onwards (performed (p .bindings) o) s place next ≡ passed q → perform (over rules t large) p s ≡ performed (p .bindings) o
+      → onwards (performed (p .bindings) o (closesPair s)) s place next ≡ passed q
+      → perform (over rules t large) p s ≡ performed (p .bindings) o (closesPair s)
   unfolding performed perform onwards
   raised-performed p s place next none f e = clash (cc)
   raised-performed p s place next (some y) f e = rw (done (raised-does h (does s f)))

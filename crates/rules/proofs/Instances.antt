@@ -91,7 +91,13 @@ module _ (σ : Substitution) where
   hang-under branch [] = refl
   hang-under branch (l ∷ ls) = ap {B = List Leaf} (λ r. leafUnder σ (record { literal = l; branch = branch }) ∷ r) (hang-under branch ls)
 
-  -- what hangs below a leaf, and the older leaves
+  -- what hangs below a leaf, and the older leaves: all literals of a copy, or all but the entered one
+  pub all-hung-under : (branch : List (Literal Variable)) (rest : List Leaf) (copy : ℕ) (clause : Clause)
+      → map (leafUnder σ) (hang branch (copyOf copy clause) ++ rest)
+      ≡ hang (map (literalUnder σ) branch) (instance (ofCopy σ copy) clause) ++ map (leafUnder σ) rest
+  all-hung-under branch rest copy clause =
+      rw (map-append (leafUnder σ) (hang branch (copyOf copy clause)) rest, hang-under branch (copyOf copy clause), copy-under copy clause)
+
   pub hung-under : (branch : List (Literal Variable)) (rest : List Leaf) (copy j : ℕ) (clause : Clause)
       → map (leafUnder σ) (hang branch (others j (copyOf copy clause)) ++ rest)
       ≡ hang (map (literalUnder σ) branch) (others j (instance (ofCopy σ copy) clause)) ++ map (leafUnder σ) rest

@@ -1,25 +1,28 @@
 -- How long a proof and a branch can be, and the numbers in its steps.
 use lib.ListN.{length, length-append, length-map}
+use mathlib.Core.Bool.{Bool, true, false, cond}
 use mathlib.Core.List.{List, [], _∷_}
 use mathlib.Core.Option.{some}
 use mathlib.Core.Path.{_≡_}
+use native.Mathlib.Nat.{mul-suc, mul-zero, mul-le-mul-left}
 use native.Mathlib.Omega.{arith}
 use Prim.Native.Nat.{ℕ, zero, suc, _+_, _*_, _≤_, _<_, zero-le}
 use Rattle.words.specs.declared.Step.{Step}
-use Rattle.words.specs.declared.Step.the-variants.{Reduction, Extension, Malformed}
+use Rattle.words.specs.declared.Step.the-variants.{Reduction, Extension, Restart, Malformed}
 use Rattle.table.specs.Syntax.{Literal, literalUnder, Clause, Table, allClauses}
 use Rattle.rules.specs.Substitution.{Variable}
-use Rattle.rules.specs.Setting.{Setting}
+use Rattle.rules.specs.Setting.{Profile, restarting, mostOpened, longestProof, Setting}
 use Rattle.rules.specs.Tableau.{fresh, copyOf, Leaf, Tableau, hang, start, ancestor, others, Made, as-it-stands, by-step, Closed}
 use Rattle.rules.proofs.Lifting.{within-bound}
 use Rattle.rules.proofs.Instances.{ancestor-at}
 use Rattle.rules.proofs.Lists.{All, all-at, all-append, all-right, all-more, some-below, length-others}
-use Rattle.rules.proofs.Steps.{Does, reduces, extends, does, does-within}
+use Rattle.rules.proofs.Steps.{Does, reduces, extends, restarts, does, does-within, restarts-some}
 
 -- a step whose numbers are within the table's and the bound's
 abbrev pub InRange : Setting → Step → Type 0
 InRange S (Reduction height) = (0 < height) × (height ≤ S .bound)
 InRange S (Extension clause literal) = (clause < length (allClauses (S .table))) × (literal < 7)
+InRange S Restart = restarting (S .profile) ≡ true
 InRange S Malformed = ⊥
 
 length-hang : (branch ls : List (Literal Variable)) → length (hang branch ls) ≡ length ls
@@ -34,10 +37,27 @@ length-copy copy clause = length-map (clause .literals) (literalUnder (fresh cop
 abbrev pub Short : Table → Type 0
 Short t = All (λ c. length (c .literals) ≤ 7) (allClauses t)
 
+six-opened : (rules : Profile) → 6 ≤ mostOpened rules
+six-opened rules = go (restarting rules)
+  where
+    go : (b : Bool) → 6 ≤ cond b 7 6
+    go true = omega arith
+    go false = omega arith
+
+seven-opened : (rules : Profile) → restarting rules ≡ true → mostOpened rules ≡ 7
+seven-opened rules e = rw e
+
 module _ (S : Setting) (short : Short (S .table)) where
-  -- a step closes one leaf, and an extension opens at most six
+  abbrev opens : ℕ
+  opens = mostOpened (S .profile)
+
+  question-short : length (S .table .question .literals) ≤ 7
+  unfolding allClauses All
+  question-short = all-right (λ c. length (c .literals) ≤ 7) (S .table .clauses) (S .table .question ∷ []) short .0
+
+  -- a step treats one leaf; an extension opens at most six, and a restart seven
   step-leaves : {x y : Tableau} {s : Step} → Does S x s y
-      → suc (length (y .leaves)) + 6 * x .extensions ≤ length (x .leaves) + 6 * y .extensions
+      → suc (length (y .leaves)) + opens * x .extensions ≤ length (x .leaves) + opens * y .extensions
   unfolding others
   step-leaves (reduces l a f e) = rw (← e, l) (omega arith)
   step-leaves {x} (extends {leaf = leaf} {rest = rest} {clause = clause} {i = i} {j = j} l u c a f e) =
@@ -47,26 +67,41 @@ module _ (S : Setting) (short : Short (S .table)) where
       let r = length-others copy j a in
       let o = length-copy (suc (x .extensions)) clause in
       let h = all-at (λ c. length (c .literals) ≤ 7) (allClauses (S .table)) i c short in
+      let k = six-opened (S .profile) in
+      let spent = mul-suc opens (x .extensions) in
+      rw (← e, l) (omega arith)
+  step-leaves {x} (restarts {leaf = leaf} {rest = rest} l u e) =
+      let copy : List (Literal Variable) = copyOf (suc (x .extensions)) (S .table .question) in
+      let p = length-append (hang (leaf .literal ∷ leaf .branch) copy) rest in
+      let q = length-hang (leaf .literal ∷ leaf .branch) copy in
+      let o = length-copy (suc (x .extensions)) (S .table .question) in
+      let h = question-short in
+      let k = seven-opened (S .profile) (restarts-some (S .profile) (leaf .literal .negative) (u .0)) in
+      let spent = mul-suc opens (x .extensions) in
       rw (← e, l) (omega arith)
 
   pub made-leaves : {x z : Tableau} {ss : List Step} → Made S x ss z
-      → length ss + length (z .leaves) + 6 * x .extensions ≤ length (x .leaves) + 6 * z .extensions
+      → length ss + length (z .leaves) + opens * x .extensions ≤ length (x .leaves) + opens * z .extensions
   made-leaves as-it-stands = omega arith
   made-leaves (by-step {s = s} e m) = let h = step-leaves (does s e) in let k = made-leaves m in omega arith
 
-  -- a proof has at most 7 + 6 × bound steps
-  pub steps-bounded : {ss : List Step} → Closed S ss → length ss ≤ 7 + 6 * S .bound
-  unfolding start allClauses All
+  -- a proof has at most 7 + 6 × bound steps, or 7 + 7 × bound where leaves are restarted
+  pub steps-bounded : {ss : List Step} → Closed S ss → length ss ≤ 7 + opens * S .bound
+  unfolding start
   steps-bounded c =
       let h = made-leaves (c .made) in
-      let k = within-bound (c .made) zero-le in
+      let k = mul-le-mul-left opens (within-bound (c .made) zero-le) in
       let p = length-hang [] (copyOf 0 (S .table .question)) in
       let q = length-copy 0 (S .table .question) in
-      let r = all-right (λ c. length (c .literals) ≤ 7) (S .table .clauses) (S .table .question ∷ []) short .0 in
+      let r = question-short in
+      let z = mul-zero opens in
       omega arith
 
-pub at-most-199 : (S : Setting) → Short (S .table) → {ss : List Step} → S .bound ≤ 32 → Closed S ss → length ss ≤ 199
-at-most-199 S short h c = let k = steps-bounded S short c in omega arith
+pub at-most-longest : (S : Setting) → Short (S .table) → {ss : List Step} → S .bound ≤ 32 → Closed S ss → length ss ≤ longestProof (S .profile)
+at-most-longest S short h c =
+    let k = steps-bounded S short c in
+    let m = mul-le-mul-left (mostOpened (S .profile)) h in
+    omega arith
 
 -- the branch of a leaf is at most as long as the extensions made
 abbrev pub Shallow : Tableau → Type 0
@@ -96,6 +131,14 @@ module _ {S : Setting} where
       rw (← e)
       (all-append (λ leaf. length (leaf .branch) ≤ n) hung rest
       (hang-shallow n (leaf .literal ∷ leaf .branch) (others j (copyOf n clause)) (omega arith)) old)
+  step-shallow {x} (restarts {leaf = leaf} {rest = rest} l u e) h =
+      let k = rw l at h in
+      let n : ℕ = suc (x .extensions) in
+      let copy : List (Literal Variable) = copyOf n (S .table .question) in
+      let old = all-more (λ leaf. length (leaf .branch) ≤ x .extensions) (λ leaf. length (leaf .branch) ≤ n) (λ leaf b. omega arith) rest (k .1) in
+      rw (← e)
+      (all-append (λ leaf. length (leaf .branch) ≤ n) (hang (leaf .literal ∷ leaf .branch) copy) rest
+      (hang-shallow n (leaf .literal ∷ leaf .branch) copy (omega arith)) old)
 
   pub made-shallow : {x z : Tableau} {ss : List Step} → Made S x ss z → Shallow x → Shallow z
   made-shallow as-it-stands h = h
@@ -117,6 +160,7 @@ module _ (S : Setting) (short : Short (S .table)) where
       let q = length-copy (suc (x .extensions)) clause in
       let r = all-at (λ c. length (c .literals) ≤ 7) (allClauses (S .table)) i c short in
       (some-below (allClauses (S .table)) i c, omega arith)
+  step-in-range (restarts {leaf = leaf} l u e) b h = restarts-some (S .profile) (leaf .literal .negative) (u .0)
 
   pub made-in-range : {x z : Tableau} {ss : List Step} → Made S x ss z → x .extensions ≤ S .bound → Shallow x → All (InRange S) ss
   unfolding All

@@ -11,24 +11,25 @@ use native.Mathlib.Nat.{add-zero, suc-add, add-suc}
 use native.Mathlib.Omega.{arith}
 use Prim.Native.Nat.{ℕ, zero, suc, _+_, _≤_, zero-le}
 use Rattle.words.specs.declared.Step.{Step}
-use Rattle.words.specs.declared.Step.the-variants.{Reduction, Extension, Malformed}
+use Rattle.words.specs.declared.Step.the-variants.{Reduction, Extension, Restart, Malformed}
 use Rattle.table.specs.Syntax.{Literal, literalUnder, Clause, Table, allClauses}
 use Rattle.rules.specs.Substitution.{Variable, Substitution, Solves}
 use Rattle.rules.specs.Setting.{Profile, Setting, over}
-use Rattle.rules.specs.Tableau.{afterReduction, fresh, copyOf, fits, Leaf, Tableau, hang, start, ancestor, others, closing}
+use Rattle.rules.specs.Tableau.{afterReduction, afterRestart, fresh, copyOf, fits, Leaf, Tableau, hang, start, ancestor, others, closing}
 use Rattle.rules.specs.Tableau.{questionsWith, Made, as-it-stands, by-step, Closed}
 use Rattle.rules.proofs.Instances.{Instance, instance, opposite, ofCopy, leafUnder, ancestor-map, ancestor-map-back, copy-under}
-use Rattle.rules.proofs.Instances.{sign-under, hang-under, hung-under, copy-some, fit-opposite, opposite-fits, opposite-atoms}
+use Rattle.rules.proofs.Instances.{sign-under, hang-under, all-hung-under, hung-under, copy-some, fit-opposite, opposite-fits, opposite-atoms}
 use Rattle.rules.proofs.Lists.{map-some-back, map-nil-back, map-cons-back}
-use Rattle.rules.proofs.Steps.{afterEntry, MayExtend, Does, reduces, extends, does, done, does-within}
-use Rattle.rules.proofs.Trees.{Tree, bare, reduction, extension, size, instances, steps, asked, InstanceTree}
+use Rattle.rules.proofs.Steps.{afterEntry, MayExtend, MayRestart, Does, reduces, extends, restarts, does, done, does-within}
+use Rattle.rules.proofs.Trees.{Tree, bare, reduction, extension, restart, size, instances, steps, asked, InstanceTree}
 
 module _ (σ : Substitution) {S : Setting} where
-  -- a step closes its own pair and keeps the older ones
+  -- a step closes its own pair, if it has one, and keeps the older ones
   solved-before : {x y : Tableau} {s : Step} → Does S x s y → Solves σ (y .pairs) → Solves σ (x .pairs)
   unfolding Solves
   solved-before (reduces l a f e) h = let k = rw (← e) at h in k .1
   solved-before (extends l u c a f e) h = let k = rw (← e) at h in k .1
+  solved-before (restarts l u e) h = rw (← e) at h
 
   pub solved-earlier : {x z : Tableau} {ss : List Step} → Made S x ss z → Solves σ (z .pairs) → Solves σ (x .pairs)
   solved-earlier as-it-stands h = h
@@ -82,12 +83,28 @@ module _ (σ : Substitution) {rules : Profile} {t : Table} {x z : Tableau} {ss :
         questions = g .questions ∙ one-more (eqb i (length (t .clauses))) (ofCopy σ) (x .questions) (suc (x .extensions)) (asked (g .tree));
       }
 
+  grounded-restart : x .leaves ≡ leaf ∷ rest → rules .restarts (leaf .literal .negative) ≡ true → Grounded σ rules t (afterRestart t x leaf rest) z ss
+      → Grounded σ rules t x z (Restart ∷ ss)
+  unfolding size steps asked leafUnder literalUnder
+  grounded-restart l u g =
+      let copy : ℕ = suc (x .extensions) in
+      let below = sym (all-hung-under σ (leaf .literal ∷ leaf .branch) rest copy (t .question)) ∙ g .as-leaves in
+      record {
+        leaves = leafUnder σ leaf ∷ map (leafUnder σ) rest;
+        as-leaves = rw l;
+        tree = restart (ofCopy σ copy) u below (g .tree);
+        same-steps = ap {B = List Step} (λ r. Restart ∷ r) (g .same-steps);
+        extensions = add-suc (x .extensions) (size (g .tree)) ∙ sym (suc-add (x .extensions) (size (g .tree))) ∙ g .extensions;
+        questions = g .questions ∙ one-more true (ofCopy σ) (x .questions) copy (asked (g .tree));
+      }
+
 module _ (σ : Substitution) {S : Setting} where
   grounded-step : {x y z : Tableau} {s : Step} {ss : List Step} → Does S x s y → Solves σ (y .pairs) → Grounded σ (S .profile) (S .table) y z ss
       → Grounded σ (S .profile) (S .table) x z (s ∷ ss)
   grounded-step (reduces {m = m} {height = h} l a f e) k g = grounded-reduction σ h m l a f (rw (← e) at k) (rw (← e) at g)
   grounded-step (extends {clause = clause} {m = m} {i = i} {j = j} l u c a f e) k g =
       grounded-extension σ i j clause m l (u .0) c a f (rw (← e) at k) (rw (← e) at g)
+  grounded-step (restarts l u e) k g = grounded-restart σ l (u .0) (rw (← e) at g)
 
   pub grounded : {x z : Tableau} {ss : List Step} → Made S x ss z → z .leaves ≡ [] → Solves σ (z .pairs) → Grounded σ (S .profile) (S .table) x z ss
   unfolding size steps asked
@@ -201,6 +218,20 @@ module _ (σ : Substitution) (S : Setting) where
         extensions = refl;
       }
 
+  next-restart : (x : Tableau) (leaf : Leaf) (rest : List Leaf) → x .leaves ≡ leaf ∷ rest → MayRestart S x leaf → Solves σ (x .pairs)
+      → Next x Restart
+      (hang (leafUnder σ leaf .literal ∷ leafUnder σ leaf .branch) (instance (ofCopy σ (suc (x .extensions))) (S .table .question))
+      ++ map (leafUnder σ) rest) (suc (x .extensions))
+  unfolding leafUnder
+  next-restart x leaf rest l u s =
+      record {
+        tableau = afterRestart (S .table) x leaf rest;
+        does = restarts l u refl;
+        as-leaves = all-hung-under σ (leaf .literal ∷ leaf .branch) rest (suc (x .extensions)) (S .table .question);
+        solves = s;
+        extensions = refl;
+      }
+
   lift-next : {x : Tableau} {s : Step} {ss : List Step} {ls : List Leaf} {n : ℕ} (k : Next x s ls n) → Lifted (k .tableau) ss → Lifted x (s ∷ ss)
   lift-next k r =
       record {
@@ -229,12 +260,18 @@ module _ (σ : Substitution) (S : Setting) where
       let k = next-extension x (c .0) (c .1) i j clause (c .2) (rw (← sign-under σ (c .0), c .3) u, omega arith) e (rw (f .0, c .3) a) s in
       lift-next k
       (lift below (k .tableau) (k .as-leaves ∙ rw (f .0, c .3, c .4) hung) (rw (k .extensions) (f .1)) (rw (k .extensions) (omega arith)) (k .solves))
+  lift (restart {leaf = leaf} θ u hung below) x l f b s =
+      let c = map-cons-back (leafUnder σ) (x .leaves) l in
+      let k = next-restart x (c .0) (c .1) (c .2) (rw (← sign-under σ (c .0), c .3) u, omega arith) s in
+      lift-next k
+      (lift below (k .tableau) (k .as-leaves ∙ rw (f .0, c .3, c .4) hung) (rw (k .extensions) (f .1)) (rw (k .extensions) (omega arith)) (k .solves))
 
 -- the copies of the question that these steps make, where so many extensions are made before
 unfoldable copiesAsked : Table → ℕ → List Step → List ℕ
 copiesAsked t n [] = []
 copiesAsked t n (Reduction h ∷ ss) = copiesAsked t n ss
 copiesAsked t n (Extension i j ∷ ss) = cond (eqb i (length (t .clauses))) (suc n ∷ copiesAsked t (suc n) ss) (copiesAsked t (suc n) ss)
+copiesAsked t n (Restart ∷ ss) = suc n ∷ copiesAsked t (suc n) ss
 copiesAsked t n (Malformed ∷ ss) = copiesAsked t n ss
 
 copies-step : {S : Setting} {x y : Tableau} {s : Step} (ss : List Step) → Does S x s y
@@ -247,6 +284,7 @@ copies-step {S} {x} ss (extends {i = i} l u c a f e) =
     after : (b : Bool) (copies : List ℕ) (copy : ℕ) (more : List ℕ) → cond b (copies ++ (copy ∷ [])) copies ++ more ≡ copies ++ cond b (copy ∷ more) more
     after true copies copy more = append-assoc copies (copy ∷ []) more
     after false copies copy more = refl
+copies-step {S} {x} ss (restarts l u e) = rw (← e) (append-assoc (x .questions) (suc (x .extensions) ∷ []) (copiesAsked (S .table) (suc (x .extensions)) ss))
 
 made-copies : {S : Setting} {x z : Tableau} {ss : List Step} → Made S x ss z → z .questions ≡ x .questions ++ copiesAsked (S .table) (x .extensions) ss
 unfolding copiesAsked
@@ -266,6 +304,7 @@ asked-copies σ {t = t} (extension i j θ u c a e below) n f =
         → map (ofCopy σ) (cond b (suc n ∷ copies) copies) ≡ cond b (θ ∷ θs) θs
     choice true copies e k = rw (e, k)
     choice false copies e k = k
+asked-copies σ (restart θ u e below) n f = ap₂ _∷_ (f .0) (asked-copies σ below (suc n) (f .1))
 
 module _ {rules : Profile} {t : Table} (x : InstanceTree rules t) where
   abbrev all-copies : Substitution

@@ -10,14 +10,14 @@ use mathlib.Core.Option.{Option, none, some}
 use mathlib.Core.Path.{_≡_, refl, sym, _∙_, ap, subst}
 use Prim.Native.Nat.{ℕ, suc}
 use Rattle.words.specs.declared.Step.{Step}
-use Rattle.words.specs.declared.Step.the-variants.{Reduction, Extension, Malformed}
+use Rattle.words.specs.declared.Step.the-variants.{Reduction, Extension, Restart, Malformed}
 use Rattle.table.specs.Syntax.{Clause, Table, allClauses}
 use Rattle.rules.specs.Substitution.{Substitution}
 use Rattle.rules.specs.Setting.{Profile, over}
 use Rattle.rules.specs.Tableau.{Leaf, Tableau, start, questionsWith, extended, treated, stepped, Made, as-it-stands, by-step, Closed}
 use Rattle.rules.specs.Answer.{perCopy, disjuncts, answerWords}
 use Rattle.rules.specs.System.{_∈_, first, later}
-use Rattle.rules.specs.Machinery.Play.{Play, begin, perform, Performed, goes-on, not-possible, clashes, circular, Checking, refusal, onwards, checkFrom, check}
+use Rattle.rules.specs.Machinery.Play.{Play, begin, perform, Performed, goes-on, not-possible, clashes, circular, closesPair, Checking, refusal, onwards, checkFrom, check}
 use Rattle.rules.specs.Locality.{renumbered, SameClauseAt, SameCopied}
 
 -- two tests of numbers agree where the equalities do
@@ -36,42 +36,51 @@ module _ (rules : Profile) (t u : Table) (number : ℕ → ℕ) (bound : ℕ) wh
   same-extended x leaf rest i j none h = refl
   same-extended x leaf rest i j (some clause) h = rw (same-test i (length (t .clauses)) (number i) (length (u .clauses)) h)
 
-  same-treated : (x : Tableau) (leaves : List Leaf) (s : Step)
+  same-treated : t .question ≡ u .question → (x : Tableau) (leaves : List Leaf) (s : Step)
       → ((i j : ℕ) → s ≡ Extension i j → SameClauseAt t u i (number i))
       → treated (over rules u bound) x leaves (renumbered number s) ≡ treated (over rules t bound) x leaves s
   unfolding treated renumbered
-  same-treated x [] s h = refl
-  same-treated x (leaf ∷ rest) (Reduction height) h = refl
-  same-treated x (leaf ∷ rest) (Extension i j) h =
+  same-treated q x [] s h = refl
+  same-treated q x (leaf ∷ rest) (Reduction height) h = refl
+  same-treated q x (leaf ∷ rest) (Extension i j) h =
       let k = h i j refl in
       rw (k .clause, same-extended x leaf rest i j (getElem? (allClauses u) (number i)) (k .question))
-  same-treated x (leaf ∷ rest) Malformed h = refl
+  same-treated q x (leaf ∷ rest) Restart h = rw q
+  same-treated q x (leaf ∷ rest) Malformed h = refl
 
-  same-stepped : (x : Tableau) (s : Step) → ((i j : ℕ) → s ≡ Extension i j → SameClauseAt t u i (number i))
+  same-stepped : t .question ≡ u .question → (x : Tableau) (s : Step) → ((i j : ℕ) → s ≡ Extension i j → SameClauseAt t u i (number i))
       → stepped (over rules u bound) x (renumbered number s) ≡ stepped (over rules t bound) x s
   unfolding stepped
-  same-stepped x s h = same-treated x (x .leaves) s h
+  same-stepped q x s h = same-treated q x (x .leaves) s h
 
   -- of the first of the steps, and of the others
-  module _ {s : Step} {ss : List Step} (same : (i j : ℕ) → Extension i j ∈ (s ∷ ss) → SameClauseAt t u i (number i)) where
+  module _ (q : t .question ≡ u .question) {s : Step} {ss : List Step} (same : (i j : ℕ) → Extension i j ∈ (s ∷ ss) → SameClauseAt t u i (number i)) where
     step-same : (x : Tableau) → stepped (over rules u bound) x (renumbered number s) ≡ stepped (over rules t bound) x s
-    step-same x = same-stepped x s (λ i j e. same i j (subst (λ (r : Step). r ∈ (s ∷ ss)) e first))
+    step-same x = same-stepped q x s (λ i j e. same i j (subst (λ (r : Step). r ∈ (s ∷ ss)) e first))
 
     rest-same : (i j : ℕ) → Extension i j ∈ ss → SameClauseAt t u i (number i)
     rest-same i j m = same i j (later m)
 
   -- the steps make the same tableau
-  local-made : {x z : Tableau} {ss : List Step} → ((i j : ℕ) → Extension i j ∈ ss → SameClauseAt t u i (number i))
+  local-made : t .question ≡ u .question → {x z : Tableau} {ss : List Step} → ((i j : ℕ) → Extension i j ∈ ss → SameClauseAt t u i (number i))
       → Made (over rules t bound) x ss z → Made (over rules u bound) x (map (renumbered number) ss) z
-  local-made h as-it-stands = as-it-stands
-  local-made {x} h (by-step e m) = by-step (step-same h x ∙ e) (local-made (rest-same h) m)
+  local-made q h as-it-stands = as-it-stands
+  local-made q {x} h (by-step e m) = by-step (step-same q h x ∙ e) (local-made q (rest-same q h) m)
 
   -- the checker says the same of them
   same-refusal : (s : Step) → refusal (renumbered number s) ≡ refusal s
   unfolding refusal renumbered
   same-refusal (Reduction height) = refl
   same-refusal (Extension i j) = refl
+  same-refusal Restart = refl
   same-refusal Malformed = refl
+
+  same-closes : (s : Step) → closesPair (renumbered number s) ≡ closesPair s
+  unfolding renumbered
+  same-closes (Reduction height) = refl
+  same-closes (Extension i j) = refl
+  same-closes Restart = refl
+  same-closes Malformed = refl
 
   same-onwards : (o : Performed) (s : Step) (place : ℕ) (next after : Play → Checking) → ((q : Play) → next q ≡ after q)
       → onwards o (renumbered number s) place next ≡ onwards o s place after
@@ -81,12 +90,12 @@ module _ (rules : Profile) (t u : Table) (number : ℕ → ℕ) (bound : ℕ) wh
   same-onwards clashes s place next after h = refl
   same-onwards circular s place next after h = refl
 
-  local-checked : (ss : List Step) → ((i j : ℕ) → Extension i j ∈ ss → SameClauseAt t u i (number i)) → (p : Play) (place : ℕ)
+  local-checked : t .question ≡ u .question → (ss : List Step) → ((i j : ℕ) → Extension i j ∈ ss → SameClauseAt t u i (number i)) → (p : Play) (place : ℕ)
       → checkFrom (over rules u bound) p place (map (renumbered number) ss) ≡ checkFrom (over rules t bound) p place ss
   unfolding checkFrom perform
-  local-checked [] h p place = refl
-  local-checked (s ∷ ss) h p place =
-      rw (step-same h (p .tableau)) (same-onwards _ s place _ _ (λ q. local-checked ss (rest-same h) q (suc place)))
+  local-checked q [] h p place = refl
+  local-checked q (s ∷ ss) h p place =
+      rw (step-same q h (p .tableau), same-closes s) (same-onwards _ s place _ _ (λ r. local-checked q ss (rest-same q h) r (suc place)))
 
 same-start : (t u : Table) → t .question ≡ u .question → start t ≡ start u
 unfolding start
@@ -110,13 +119,13 @@ module _ {t u : Table} {number : ℕ → ℕ} {steps : List Step} (same : SameCo
   unfolding check
   local-check rules bound =
       ap (λ (p : Play). checkFrom (over rules u bound) p 0 (map (renumbered number) steps)) (sym (same-begin t u (same .question)))
-      ∙ local-checked rules t u number bound steps (same .copied) (begin t) 0
+      ∙ local-checked rules t u number bound (same .question) steps (same .copied) (begin t) 0
 
   pub local-closed : {rules : Profile} {bound : ℕ} → Closed (over rules t bound) steps → Closed (over rules u bound) (map (renumbered number) steps)
   local-closed {rules} {bound} c =
       record {
         tableau = c .tableau;
-        made = rw (same-start t u (same .question)) at (local-made rules t u number bound (same .copied) (c .made));
+        made = rw (same-start t u (same .question)) at (local-made rules t u number bound (same .question) (same .copied) (c .made));
         no-leaf-open = c .no-leaf-open;
         unifiable = c .unifiable;
       }

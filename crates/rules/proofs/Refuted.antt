@@ -13,7 +13,7 @@ use Rattle.rules.specs.Setting.{Profile}
 use Rattle.rules.specs.Tableau.{Leaf, hang, ancestor, others}
 use Rattle.rules.proofs.Instances.{instance, opposite, ancestor-at}
 use Rattle.rules.proofs.Lists.{All, all-left, all-right, all-at}
-use Rattle.rules.proofs.Trees.{Tree, bare, reduction, extension, InstanceTree}
+use Rattle.rules.proofs.Trees.{Tree, bare, reduction, extension, restart, InstanceTree}
 
 module _ (isTrue : Literal Variable → Bool) where
   unfoldable pub oneTrue : List (Literal Variable) → Bool
@@ -25,6 +25,7 @@ module _ (isTrue : Literal Variable → Bool) where
   HungTrue bare = Unit {0}
   HungTrue (reduction h a below) = HungTrue below
   HungTrue (extension {clause = clause} i j θ u c a e below) = (oneTrue (instance θ clause) ≡ true) × HungTrue below
+  HungTrue {t = t} (restart θ u e below) = (oneTrue (instance θ (t .question)) ≡ true) × HungTrue below
 
   -- a leaf all of whose ancestors are true is false
   abbrev Refuted : Leaf → Type 0
@@ -64,6 +65,13 @@ module _ (isTrue : Literal Variable → Bool) where
         sym s ∙ none-true ls j e (turns (leaf .literal) ∙ ap not v) below
     refuted-by leaf ls j false e s h branch v = refl
 
+    -- and so is one with such an instance below it all of whose literals are refuted
+    refuted-anew : (leaf : Leaf) (ls : List (Literal Variable)) (b : Bool) → oneTrue ls ≡ true → All Refuted (hang (leaf .literal ∷ leaf .branch) ls)
+        → All (λ m. isTrue m ≡ true) (leaf .branch) → isTrue (leaf .literal) ≡ b → b ≡ false
+    unfolding All
+    refuted-anew leaf ls true s h branch v = sym s ∙ all-false ls (refuted-below (leaf .literal ∷ leaf .branch) ls h (v, branch))
+    refuted-anew leaf ls false s h branch v = refl
+
     tree-refutes : {rules : Profile} {t : Table} {ls : List Leaf} (tree : Tree rules t ls) → HungTrue tree → All Refuted ls
     unfolding HungTrue All
     tree-refutes bare d = tt
@@ -76,6 +84,13 @@ module _ (isTrue : Literal Variable → Bool) where
         let hung : List Leaf = hang (leaf .literal ∷ leaf .branch) (others j ls) in
         let h : All Refuted (hung ++ rest) = rw eq (tree-refutes below (d .1)) in (
           λ branch. refuted-by leaf ls j _ e (d .0) (all-left Refuted hung rest h) branch refl,
+          all-right Refuted hung rest h,
+        )
+    tree-refutes {t = t} (restart {leaf = leaf} {rest = rest} θ u eq below) d =
+        let ls : List (Literal Variable) = instance θ (t .question) in
+        let hung : List Leaf = hang (leaf .literal ∷ leaf .branch) ls in
+        let h : All Refuted (hung ++ rest) = rw eq (tree-refutes below (d .1)) in (
+          λ branch. refuted-anew leaf ls _ (d .0) (all-left Refuted hung rest h) branch refl,
           all-right Refuted hung rest h,
         )
 

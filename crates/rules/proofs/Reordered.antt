@@ -16,7 +16,7 @@ use Rattle.rules.specs.Tableau.{Leaf, hang, others, Closed}
 use Rattle.rules.proofs.Instances.{Instance, instance, opposite}
 use Rattle.rules.proofs.Lifting.{closed-iff-tree}
 use Rattle.rules.proofs.Lists.{none-some, last-or-before, some-append, some-last}
-use Rattle.rules.proofs.Trees.{Tree, bare, reduction, extension, size, Counted, counted, join, split, InstanceTree}
+use Rattle.rules.proofs.Trees.{Tree, bare, reduction, extension, restart, size, Counted, counted, join, split, InstanceTree}
 
 module _ {A : Type 0} where
   pub unchanged : (xs : List A) → Reordered _≡_ xs xs
@@ -109,7 +109,7 @@ found (in-turn r q) i e =
 pub record Covered (t u : Table) : Type 0 where
   pub finds : (i : ℕ) (c : Clause) → getElem? (allClauses t) i ≡ some c → Found (allClauses u) c
 
-module _ {rules : Profile} {t u : Table} (covered : Covered t u) where
+module _ {rules : Profile} {t u : Table} (covered : Covered t u) (same : Reordered _≡_ (t .question .literals) (u .question .literals)) where
   covered-extension : (leaf : Leaf) (rest below : List Leaf) (clause : Clause) (i j : ℕ) (θ : Instance) (n : ℕ)
       → rules .extends (leaf .literal .negative) ≡ true → getElem? (allClauses t) i ≡ some clause
       → getElem? (instance θ clause) j ≡ some (opposite (leaf .literal))
@@ -122,6 +122,14 @@ module _ {rules : Profile} {t u : Table} (covered : Covered t u) where
       let r = permuted moved (rw (← hung) at s) in
       record { tree = extension (f .place) (k .place) θ u (f .there) (k .there) refl (r .tree); extensions = ap suc (r .extensions) }
 
+  covered-restart : (leaf : Leaf) (rest below : List Leaf) (θ : Instance) (n : ℕ) → rules .restarts (leaf .literal .negative) ≡ true
+      → hang (leaf .literal ∷ leaf .branch) (instance θ (t .question)) ++ rest ≡ below → Counted rules u below n → Counted rules u (leaf ∷ rest) (suc n)
+  unfolding size instance
+  covered-restart leaf rest below θ n u hung s =
+      let moved = reordered-append rest (reordered-hang (leaf .literal ∷ leaf .branch) (reordered-map (literalUnder θ) same)) in
+      let r = permuted moved (rw (← hung) at s) in
+      record { tree = restart θ u refl (r .tree); extensions = ap suc (r .extensions) }
+
   pub covered-tree : {ls : List Leaf} (tree : Tree rules t ls) → Counted rules u ls (size tree)
   unfolding size
   covered-tree bare = record { tree = bare; extensions = refl }
@@ -130,21 +138,20 @@ module _ {rules : Profile} {t u : Table} (covered : Covered t u) where
       record { tree = reduction h a (r .tree); extensions = r .extensions }
   covered-tree (extension {leaf = leaf} {rest = rest} {below = ls} {clause = clause} i j θ u c a hung below) =
       covered-extension leaf rest ls clause i j θ (size below) u c a hung (covered-tree below)
+  covered-tree (restart {leaf = leaf} {rest = rest} {below = ls} θ u hung below) = covered-restart leaf rest ls θ (size below) u hung (covered-tree below)
 
   -- where every clause of one table has its place in the other, and the questions are the same, a tree of one is a tree of the other
-  pub covered-whole : Reordered _≡_ (t .question .literals) (u .question .literals) → (x : InstanceTree rules t)
-      → (y : InstanceTree rules u) × (size (y .tree) ≡ size (x .tree))
+  pub covered-whole : (x : InstanceTree rules t) → (y : InstanceTree rules u) × (size (y .tree) ≡ size (x .tree))
   unfolding instance
-  covered-whole q x =
-      let leaves = reordered-hang [] (reordered-map (literalUnder (x .root)) q) in
+  covered-whole x =
+      let leaves = reordered-hang [] (reordered-map (literalUnder (x .root)) same) in
       let s = permuted leaves (subst (λ (ls : List Leaf). Counted rules u ls (size (x .tree))) (sym (x .hung)) (covered-tree (x .tree))) in
       (record { root = x .root; leaves = hang [] (instance (x .root) (u .question)); hung = refl; tree = s .tree }, s .extensions)
 
-  pub covered-closed : Reordered _≡_ (t .question .literals) (u .question .literals) → (bound : ℕ)
-      → (ss : List Step) × Closed (over rules t bound) ss → (ss : List Step) × Closed (over rules u bound) ss
-  covered-closed q bound c =
+  pub covered-closed : (bound : ℕ) → (ss : List Step) × Closed (over rules t bound) ss → (ss : List Step) × Closed (over rules u bound) ss
+  covered-closed bound c =
       let x = closed-iff-tree (over rules t bound) .0 c in
-      let y = covered-whole q (x .0) in
+      let y = covered-whole (x .0) in
       closed-iff-tree (over rules u bound) .1 (y .0, rw (y .1) (x .1))
 
 pub same-covered : {t u : Table} → SameTable t u → Covered t u

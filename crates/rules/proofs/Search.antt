@@ -1,6 +1,6 @@
 -- The search as a program and the search in the stated order are the same; what it finds is the first closed tableau.
 use lib.ListN.{length, getElem?, length-append, length-map}
-use mathlib.Core.Bool.{Bool, true, false}
+use mathlib.Core.Bool.{Bool, true, false, cond}
 use mathlib.Core.List.{List, [], _∷_, _++_, List·Memᴰ, List·Memᴰ·head, List·Memᴰ·tail}
 use mathlib.Core.Logic.{_⊎_, ⊎-map}
 use mathlib.Core.Option.{none, some}
@@ -8,16 +8,16 @@ use mathlib.Core.Path.{_≡_, refl, sym, _∙_, ap, ap₂, subst, subst₂}
 use native.Mathlib.Decide.{decLe}
 use native.Mathlib.Nat.{mul-suc, mul-le-mul}
 use native.Mathlib.Omega.{arith}
-use Prim.Native.Nat.{ℕ, zero, suc, _+_, _*_, _-_, _≤_, _<_}
+use Prim.Native.Nat.{ℕ, zero, suc, _+_, _*_, _-_, max, _≤_, _<_}
 use Rattle.words.specs.declared.Step.{Step}
 use Rattle.table.specs.Syntax.{Literal, Clause, allClauses}
 use Rattle.table.specs.Limits.{Each, ClauseWithin, Within}
 use Rattle.rules.specs.Substitution.{Variable, Unifiable}
-use Rattle.rules.specs.Setting.{Setting}
+use Rattle.rules.specs.Setting.{restarting, mostOpened, longestProof, Setting}
 use Rattle.rules.specs.Tableau.{Leaf, Tableau, start, copyOf, hang, others, stepped, Made, as-it-stands, by-step, Closed}
 use Rattle.rules.specs.Order as Stated
 use Rattle.rules.specs.Order.{Ending, found, nothing, allClosed, stated, Precedes, candidates}
-use Rattle.rules.specs.Machinery.Play.{Play, begin, Performed, goes-on, not-possible, clashes, circular, perform, afterwards, plays, mostAdded, stepsLeft, reported, searchFor}
+use Rattle.rules.specs.Machinery.Play.{Play, begin, Performed, goes-on, not-possible, clashes, circular, perform, afterwards, plays, mostAdded, mostMore, stepsLeft, reported, searchFor}
 use Rattle.rules.specs.Verdict as Verdict
 use Rattle.rules.specs.Verdict.{SearchVerdict, ended, Searches}
 use Rattle.rules.specs.Machinery.Run.{system, verdict, search}
@@ -27,7 +27,7 @@ use Rattle.rules.proofs.System.{decides, one-answer, an-answer, none-no
 use Rattle.rules.proofs.System.Clash.{clash}
 use Rattle.rules.proofs.System.Induction.{Claim, claimed}
 use Rattle.rules.proofs.Lists.{none-some, length-others}
-use Rattle.rules.proofs.Steps.{Does, reduces, extends, does}
+use Rattle.rules.proofs.Steps.{Does, reduces, extends, restarts, does, restarts-some}
 use Rattle.rules.proofs.Every.{some-same, Ordered, _ahead_, all-member}
 use Rattle.rules.proofs.Candidates.{candidate-steps, steps-candidate, candidates-ordered, no-leaf-no-step}
 use Rattle.rules.proofs.Comparison.{newest-not-unifiable}
@@ -160,23 +160,46 @@ copy-length : (n : ℕ) (c : Clause) → length (copyOf n c) ≡ length (c .lite
 unfolding copyOf
 copy-length n c = length-map (c .literals) _
 
+module _ (S : Setting) where
+  added-more : mostAdded (allClauses (S .table)) ≤ mostMore S
+  unfolding mostMore
+  added-more = go (restarting (S .profile))
+    where
+      go : (b : Bool) → mostAdded (allClauses (S .table)) ≤ cond b (max (length (S .table .question .literals)) (mostAdded (allClauses (S .table)))) (mostAdded (allClauses (S .table)))
+      go true = omega arith
+      go false = omega arith
+
+  question-more : restarting (S .profile) ≡ true → length (S .table .question .literals) ≤ mostMore S
+  unfolding mostMore
+  question-more e = rw e (omega arith)
+
+  -- a copy that hangs with so few open literals leaves fewer steps
+  less-left : (x : Tableau) (leaf : Leaf) (rest : List Leaf) (branch opened : List (Literal Variable)) → x .leaves ≡ leaf ∷ rest → x .extensions < S .bound
+      → length opened ≤ mostMore S
+      → length (hang branch opened ++ rest) + mostMore S * (S .bound - suc (x .extensions)) < length (x .leaves) + mostMore S * (S .bound - x .extensions)
+  less-left x leaf rest branch opened l u few =
+      let spent : S .bound - x .extensions ≡ suc (S .bound - suc (x .extensions)) = omega arith in
+      let split : mostMore S * (S .bound - x .extensions) ≡ mostMore S * (S .bound - suc (x .extensions)) + mostMore S =
+      rw spent (mul-suc (mostMore S) (S .bound - suc (x .extensions))) in
+      let hung : length (hang branch opened ++ rest) ≡ length opened + length rest =
+      length-append (hang branch opened) rest ∙ ap (λ (n : ℕ). n + length rest) (hung-length branch opened) in
+      let older : length (x .leaves) ≡ suc (length rest) = ap length l in
+      omega arith
+
 does-left : {S : Setting} {x y : Tableau} {s : Step} → Does S x s y → stepsLeft S y < stepsLeft S x
 unfolding stepsLeft
 does-left (reduces l a f e) = rw (← e, l) (omega arith)
 does-left {S} {x} (extends {leaf = leaf} {rest = rest} {clause = clause} {i = i} {j = j} l u k a f e) =
-    let most = mostAdded (allClauses (S .table)) in
     let copy = copyOf (suc (x .extensions)) clause in
-    let spent : S .bound - x .extensions ≡ suc (S .bound - suc (x .extensions)) = omega arith in
-    let split : most * (S .bound - x .extensions) ≡ most * (S .bound - suc (x .extensions)) + most =
-    rw spent (mul-suc most (S .bound - suc (x .extensions))) in
-    let within : length (clause .literals) ≤ suc most = added-most (allClauses (S .table)) i k in
+    let within : length (clause .literals) ≤ suc (mostAdded (allClauses (S .table))) = added-most (allClauses (S .table)) i k in
     let copied : length copy ≡ length (clause .literals) = copy-length (suc (x .extensions)) clause in
     let added : suc (length (others j copy)) ≡ length copy = others-length copy j a in
-    let hung : length (hang (leaf .literal ∷ leaf .branch) (others j copy) ++ rest) ≡ length (others j copy) + length rest =
-    length-append (hang (leaf .literal ∷ leaf .branch) (others j copy)) rest
-    ∙ ap (λ (n : ℕ). n + length rest) (hung-length (leaf .literal ∷ leaf .branch) (others j copy)) in
-    let older : length (x .leaves) ≡ suc (length rest) = ap length l in
-    rw (← e) (omega arith)
+    rw (← e) (less-left S x leaf rest (leaf .literal ∷ leaf .branch) (others j copy) l (u .1) (omega (arith, within, copied, added, added-more S)))
+does-left {S} {x} (restarts {leaf = leaf} {rest = rest} l u e) =
+    let copy = copyOf (suc (x .extensions)) (S .table .question) in
+    let copied : length copy ≡ length (S .table .question .literals) = copy-length (suc (x .extensions)) (S .table .question) in
+    let most = question-more S (restarts-some (S .profile) (leaf .literal .negative) (u .0)) in
+    rw (← e) (less-left S x leaf rest (leaf .literal ∷ leaf .branch) copy l (u .1) (omega (arith, copied, most)))
 
 pub fewer-left :
     (S : Setting) (x : Tableau) (s : Step) {y : Tableau} → stepped S x s ≡ some y → stepsLeft S y < stepsLeft S x
@@ -274,18 +297,26 @@ module _ (S : Setting) where
     λ other c. ⊎-map (λ e. e) (before-stated S) (found-first (stated S) (stated-determined S) d (closed-way c)),
   )
 
--- within document 01's limits 199 steps are left at the start
+-- within document 01's limits no more steps are left at the start than the longest proof has
 added-few : (cs : List Clause) → Each ClauseWithin cs → mostAdded cs ≤ 6
 unfolding mostAdded Each
 added-few [] w = omega arith
 added-few (c ∷ cs) w = let h = added-few cs (w .1) in let k = w .0 .few in omega arith
 
-pub at-most-199-left : (S : Setting) → Within (S .table) → S .bound ≤ 32 → stepsLeft S (start (S .table)) ≤ 199
+more-few : (S : Setting) → Within (S .table) → mostMore S ≤ mostOpened (S .profile)
+unfolding mostMore
+more-few S w = go (restarting (S .profile))
+  where
+    go : (b : Bool) → cond b (max (length (S .table .question .literals)) (mostAdded (allClauses (S .table)))) (mostAdded (allClauses (S .table))) ≤ cond b 7 6
+    go true = omega (arith, question-within (S .table) w .few, added-few (allClauses (S .table)) (w .clauses))
+    go false = added-few (allClauses (S .table)) (w .clauses)
+
+pub steps-left-few : (S : Setting) → Within (S .table) → S .bound ≤ 32 → stepsLeft S (start (S .table)) ≤ longestProof (S .profile)
 unfolding stepsLeft start
-at-most-199-left S w b =
+steps-left-few S w b =
     let q : length (S .table .question .literals) ≤ 7 = question-within (S .table) w .few in
     let h = hung-length [] (copyOf 0 (S .table .question)) in
     let c = copy-length 0 (S .table .question) in
     let k : S .bound - 0 ≤ 32 = omega arith in
-    let m : mostAdded (allClauses (S .table)) * (S .bound - 0) ≤ 6 * 32 = mul-le-mul (added-few (allClauses (S .table)) (w .clauses)) k in
+    let m : mostMore S * (S .bound - 0) ≤ mostOpened (S .profile) * 32 = mul-le-mul (more-few S w) k in
     omega arith

@@ -1,18 +1,20 @@
 -- What one step does, taken apart: the leaf it treats, the literal it closes against, and the tableau it leaves.
 use borrow.Author.Tests.{ltb-true, lt-ltb}
+use lib.Dec.{ltb}
 use lib.ListN.{getElem?}
-use mathlib.Core.Bool.{Bool, true, false, cond, _&&_}
+use mathlib.Core.Bool.{Bool, true, false, cond, _&&_, _||_}
 use mathlib.Core.List.{List, [], _∷_}
 use mathlib.Core.Option.{Option, none, some}
 use mathlib.Core.Path.{_≡_, refl}
+use native.Mathlib.Omega.{arith}
 use Prim.Native.Nat.{ℕ, suc, _≤_, _<_}
 use Rattle.words.specs.declared.Step.{Step}
-use Rattle.words.specs.declared.Step.the-variants.{Reduction, Extension, Malformed}
+use Rattle.words.specs.declared.Step.the-variants.{Reduction, Extension, Restart, Malformed}
 use Rattle.table.specs.Syntax.{Literal, Clause, Table, allClauses}
 use Rattle.rules.specs.Substitution.{Variable}
-use Rattle.rules.specs.Setting.{Setting}
-use Rattle.rules.specs.Tableau.{afterReduction, afterExtension, copyOf, fits, Leaf, Tableau, ancestor, reduced, questionsWith}
-use Rattle.rules.specs.Tableau.{entered, extended, mayExtend, treated, stepped}
+use Rattle.rules.specs.Setting.{Profile, restarting, Setting}
+use Rattle.rules.specs.Tableau.{afterReduction, afterExtension, afterRestart, copyOf, fits, Leaf, Tableau, ancestor, reduced, questionsWith}
+use Rattle.rules.specs.Tableau.{entered, extended, mayExtend, mayRestart, treated, stepped}
 use Rattle.rules.proofs.Lists.{none-some}
 use Rattle.rules.proofs.System.Clash.{clash}
 
@@ -26,6 +28,10 @@ afterEntry t x leaf rest i j clause m =
 abbrev pub MayExtend : Setting → Tableau → Leaf → Type 0
 MayExtend S x leaf = (S .profile .extends (leaf .literal .negative) ≡ true) × (x .extensions < S .bound)
 
+-- and so with a restart
+abbrev pub MayRestart : Setting → Tableau → Leaf → Type 0
+MayRestart S x leaf = (S .profile .restarts (leaf .literal .negative) ≡ true) × (x .extensions < S .bound)
+
 pub data Does (S : Setting) (x : Tableau) : Step → Tableau → Type 0 where
   reduces : {leaf : Leaf} {rest : List Leaf} {m : Literal Variable} {height : ℕ} {y : Tableau} → x .leaves ≡ leaf ∷ rest
       → ancestor height (leaf .branch) ≡ some m → fits (leaf .literal) m ≡ true → afterReduction x leaf rest m ≡ y
@@ -34,6 +40,8 @@ pub data Does (S : Setting) (x : Tableau) : Step → Tableau → Type 0 where
       → x .leaves ≡ leaf ∷ rest → MayExtend S x leaf → getElem? (allClauses (S .table)) i ≡ some clause
       → getElem? (copyOf (suc (x .extensions)) clause) j ≡ some m → fits (leaf .literal) m ≡ true
       → afterEntry (S .table) x leaf rest i j clause m ≡ y → Does S x (Extension i j) y
+  restarts : {leaf : Leaf} {rest : List Leaf} {y : Tableau} → x .leaves ≡ leaf ∷ rest → MayRestart S x leaf → afterRestart (S .table) x leaf rest ≡ y
+      → Does S x Restart y
 
 module _ {A : Type 0} where
   -- a choice that came to something took its first way
@@ -49,8 +57,9 @@ both-true : (a b : Bool) → (a && b) ≡ true → (a ≡ true) × (b ≡ true)
 both-true true b e = (refl, e)
 both-true false b e = clash (cc)
 
-may-extend-told : (S : Setting) (x : Tableau) (leaf : Leaf) → mayExtend S (x .extensions) leaf ≡ true → MayExtend S x leaf
-may-extend-told S x leaf e = let h = both-true (S .profile .extends (leaf .literal .negative)) _ e in (h .0, ltb-true _ _ (h .1))
+-- the profile lets it, and the bound does
+both-let : (b : Bool) (used bound : ℕ) → (b && ltb used bound) ≡ true → (b ≡ true) × (used < bound)
+both-let b used bound e = let h = both-true b _ e in (h .0, ltb-true _ _ (h .1))
 
 module _ {S : Setting} {x y : Tableau} where
   does-reduction : (leaf : Leaf) (rest : List Leaf) (height : ℕ) (o : Option (Literal Variable)) → x .leaves ≡ leaf ∷ rest
@@ -81,7 +90,10 @@ module _ {S : Setting} {x y : Tableau} where
   does-treated (leaf ∷ rest) (Reduction h) l e = does-reduction leaf rest h _ l refl e
   does-treated (leaf ∷ rest) (Extension i j) l e =
       let g = guarded (mayExtend S (x .extensions) leaf) e in
-      does-extension leaf rest i j _ l (may-extend-told S x leaf (g .0)) refl (g .1)
+      does-extension leaf rest i j _ l (both-let _ _ _ (g .0)) refl (g .1)
+  does-treated (leaf ∷ rest) Restart l e =
+      let g = chosen (mayRestart S (x .extensions) leaf) e in
+      restarts l (both-let _ _ _ (g .0)) (g .1)
   does-treated (leaf ∷ rest) Malformed l e = absurd (none-some e)
 
   pub does : (s : Step) → stepped S x s ≡ some y → Does S x s y
@@ -92,7 +104,18 @@ module _ {S : Setting} {x y : Tableau} where
   unfolding stepped treated reduced extended entered
   done (reduces l a f e) = rw (l, a, f, e)
   done (extends l u k a f e) = rw (l, u .0, lt-ltb _ _ (u .1), k, a, f, e)
+  done (restarts l u e) = rw (l, u .0, lt-ltb _ _ (u .1), e)
 
   pub does-within : {s : Step} → Does S x s y → x .extensions ≤ S .bound → y .extensions ≤ S .bound
   does-within (reduces l a f e) h = rw (← e) h
   does-within (extends l u k a f e) h = rw (← e) (u .1)
+  does-within (restarts l u e) h = rw (← e) (omega (arith, u .1))
+
+-- a profile that restarts a leaf of some sign is one that restarts
+pub restarts-some : (rules : Profile) (negative : Bool) → rules .restarts negative ≡ true → restarting rules ≡ true
+restarts-some rules true e = rw e
+restarts-some rules false e = go (rules .restarts true)
+  where
+    go : (b : Bool) → (b || rules .restarts false) ≡ true
+    go true = refl
+    go false = e

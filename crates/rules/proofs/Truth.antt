@@ -27,7 +27,7 @@ use Rattle.rules.proofs.Instances.{Instance, instance, opposite, ofCopy
 use Rattle.rules.proofs.Lifting.{treeUnder, tree-questions}
 use Rattle.rules.proofs.Lists.{All, last-or-before, none-some}
 use Rattle.rules.proofs.Refuted.{oneTrue, HungTrue, tree-false}
-use Rattle.rules.proofs.Trees.{Tree, bare, reduction, extension, asked, InstanceTree}
+use Rattle.rules.proofs.Trees.{Tree, bare, reduction, extension, restart, asked, InstanceTree}
 
 module _ (I : Interpretation) {X Y : Type 0} (σ : X → Term Y) (a : Y → ℕ) where
   -- what a substitution makes of an assignment
@@ -133,12 +133,13 @@ module _ (I : Interpretation) (t : Table) (a : Assignment I Variable) (hold : Al
 
   hung-all : {rules : Profile} {ls : List Leaf} (tree : Tree rules t ls) → All (Denied I t (a .element)) (asked tree)
       → HungTrue (literalTrue I (a .element)) tree
-  unfolding asked HungTrue
+  unfolding asked HungTrue All
   hung-all bare d = tt
   hung-all (reduction h e below) d = hung-all below d
   hung-all (extension {clause = clause} i j θ u c e eq below) d =
       let k = hung-true i θ (asked below) c d in
       (one-true I (a .element) (instance θ clause) ∙ k .0, hung-all below (k .1))
+  hung-all (restart θ u eq below) d = (one-true I (a .element) (instance θ (t .question)) ∙ d .0, hung-all below (d .1))
 
   -- no closed tree's every question's instance, the root too, has a true literal
   denied-false : {rules : Profile} (x : InstanceTree rules t) → Denied I t (a .element) (x .root) → All (Denied I t (a .element)) (asked (x .tree)) → ⊥

@@ -25,7 +25,7 @@ use Rattle.rules.proofs.Instances.{ancestor-at}
 use Rattle.rules.proofs.Lists.{none-some, some-last}
 use Rattle.rules.proofs.Every.{All, end, _also_, all-first, all-rest, all-append, some-same}
 use Rattle.rules.proofs.Firsts.{firsts-all}
-use Rattle.rules.proofs.Steps.{Does, reduces, extends, does}
+use Rattle.rules.proofs.Steps.{Does, reduces, extends, restarts, does}
 use Rattle.rules.proofs.Answer.{Few, few-variables, count-once}
 
 -- a term over variables that have a property, with symbols of 12 bits and at most 4 arguments
@@ -37,6 +37,11 @@ unfoldable mutual
   pub Helds : (Variable → Type 0) → Terms Variable → Type 0
   Helds P nil = Unit {0}
   Helds P (t then ts) = Held P t × Helds P ts
+
+-- the question stands after the clauses
+question-last : (t : Table) → getElem? (allClauses t) (length (t .clauses)) ≡ some (t .question)
+unfolding allClauses
+question-last t = some-last (t .clauses) (t .question)
 
 -- what holds of a term, under a substitution, and of the variables that occur
 module _ (P : Variable → Type 0) where
@@ -154,6 +159,11 @@ module _ (P : Variable → Type 0) where
         leaves = all-append (hang-ranging (leaf .literal ∷ leaf .branch) _ (h .0 .own also h .0 .above) (others-ranging j _ copy)) (h .1);
         pairs = closing-ranging (leaf .literal) m (x .pairs) (h .0 .own) (all-at _ j copy a) (r .pairs);
       })
+  does-ranging {S} {x} (restarts {leaf = leaf} l u e) copies r =
+      let h = first-leaf x r l in
+      let copy = copies (length (S .table .clauses)) (S .table .question) (u .1) (question-last (S .table)) in
+      rw (← e)
+      (record { leaves = all-append (hang-ranging (leaf .literal ∷ leaf .branch) _ (h .0 .own also h .0 .above) copy) (h .1); pairs = r .pairs })
 
 -- a copy of a clause within the limits has that copy's variables, with numbers below 16
 module _ (copies : ℕ) where
@@ -185,8 +195,7 @@ within-at (d ∷ cs) zero {c} a e = let f : d ≡ c = some-same e in rw f at (a 
 within-at (d ∷ cs) (suc i) a e = within-at cs i (a .1) e
 
 pub question-within : (t : Table) → Limits.Within t → ClauseWithin (t .question)
-unfolding allClauses
-question-within t w = within-at _ (length (t .clauses)) (w .clauses) (some-last (t .clauses) (t .question))
+question-within t w = within-at _ (length (t .clauses)) (w .clauses) (question-last t)
 
 module _ (S : Setting) (limits : Limits.Within (S .table)) where
   abbrev pub Own : Variable → Type 0
@@ -200,6 +209,7 @@ module _ (S : Setting) (limits : Limits.Within (S .table)) where
       go : (b : Bool) → All (λ q. q < suc (S .bound)) (cond b (x .questions ++ (suc (x .extensions) ∷ [])) (x .questions))
       go true = let h : suc (x .extensions) < suc (S .bound) = omega arith in all-append q (h also end)
       go false = q
+  questions-made {x} (restarts l u e) q = let h : suc (x .extensions) < suc (S .bound) = omega arith in rw (← e) (all-append q (h also end))
 
   made-ranging : {x z : Tableau} {ss : List Step} → Made S x ss z → TableauRanging Own x → All (λ q. q < suc (S .bound)) (x .questions)
       → TableauRanging Own z × All (λ q. q < suc (S .bound)) (z .questions)

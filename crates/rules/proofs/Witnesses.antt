@@ -5,17 +5,18 @@ use lib.ListN.{length}
 use mathlib.Core.Bool.{Bool, true, false, cond, not, true≢false, _||_}
 use mathlib.Core.List.{List, [], _∷_, _++_, flatten}
 use mathlib.Core.Logic.{_⊎_, inl, inr}
+use mathlib.Core.Option.{none}
 use mathlib.Core.Path.{_≡_, refl, sym, _∙_, ap, subst}
 use native.Mathlib.Omega.{arith}
 use Prim.Native.Nat.{ℕ, zero, suc, _+_, _≤_, _<_}
 use Rattle.words.specs.declared.Step.{Step}
-use Rattle.words.specs.declared.Step.the-variants.{Extension}
+use Rattle.words.specs.declared.Step.the-variants.{Extension, Restart}
 use Rattle.table.specs.Limits.{TermWithin, LiteralWithin, Each, ClauseWithin}
 use Rattle.table.specs.Syntax.{Term, var, app, Terms, nil, _then_, under, Literal, literalUnder, Clause, Table}
 use Rattle.table.proofs.Opened.{opened}
 use Rattle.rules.specs.Substitution.{Variable, Substitution, Solves, MostGeneral}
-use Rattle.rules.specs.Setting.{Setting, base}
-use Rattle.rules.specs.Tableau.{Tableau, Closed}
+use Rattle.rules.specs.Setting.{oneWay, Setting, over, base}
+use Rattle.rules.specs.Tableau.{Leaf, Tableau, treated, stepped, Closed}
 use Rattle.rules.specs.Order.{Precedes, at-once, found, nothing}
 use Rattle.rules.specs.Answer.{groupsFrom, disjunctsIn, disjuncts, answerWords}
 use Rattle.rules.specs.Truth.{Interpretation, Assignment, AllNegative, value, atomTrue, literalTrue, someTrue, allTrue, someAllTrue, Holds, AllHold, AnswerHolds}
@@ -25,7 +26,7 @@ use Rattle.rules.specs.Growing.{Inserted, at-end, kept, added, along, mo
 use Rattle.rules.specs.Reordered.{Reordered, empty, next, swapped, in-turn, SameClause}
 use Rattle.rules.specs.Evidence.{Valuation, clauseTrue, InstanceOf, InstancesTrue, QuestionsTrue, Ground, Grounding, groundInstance, Evidence, leafNeeds, mostOthers, enough, turned}
 use Rattle.rules.specs.Evidence as Evidence
-use Rattle.rules.specs.Verdict.{Answers, finds-none, runs-out}
+use Rattle.rules.specs.Verdict.{Refusal, not-allowed, Answers, finds-none, runs-out}
 use Rattle.rules.specs.Comparison.{a-clash, a-circle, Fails}
 use Rattle.rules.specs.Machinery.Unify as Unify
 use Rattle.rules.specs.Machinery.Play.{Play, Checking, passed, stopped, check, answerOf, disjunctsOf}
@@ -36,6 +37,7 @@ use Rattle.rules.proofs.Compared.{fails-exactly, comparison-says}
 use Rattle.rules.proofs.Checker.{checker-says}
 use Rattle.rules.proofs.Demands.{said, closed-passed, none-exactly, found-is-first, found-is-accepted, accepted-has-answer, one-answer, one-first}
 use Rattle.rules.proofs.Reading.{read-once}
+use Rattle.rules.proofs.Steps.{Does, extends, restarts, does}
 use Rattle.rules.proofs.Valuations.{possible?}
 
 -- truth
@@ -271,6 +273,41 @@ every-verdict = record {
   ends-with-none = said (base W.season 1) 4 {e = nothing} refl;
 }
 
+-- restarts
+not-passed : (S : Setting) (steps : List Step) {r : Refusal} {place : ℕ} → check S steps ≡ stopped r place → ¬ Closed S steps
+not-passed S steps e c = let p = closed-passed S steps c in clash (cc (e, p .1))
+
+pub read-one-way : W.ReadOneWay
+unfolding played
+read-one-way = record {
+  finds-it = refl;
+  runs-out-of-it = refl;
+  finds-none-with-one = refl;
+  base-proof-is-not = not-passed (over oneWay W.season 2) W.proof {r = not-allowed} {place = 1} refl;
+  nor-this-in-the-base = not-passed (base W.season 2) W.restartProof {r = not-allowed} {place = 1} refl;
+}
+
+positive-sign : (b : Bool) → not b ≡ true → b ≡ false
+positive-sign true e = clash (cc)
+positive-sign false e = refl
+
+pub signs-are-kept : W.SignsAreKept
+signs-are-kept t bound x y leaf rest l = (λ i j e. extended (does (Extension i j) e), λ e. restarted (does Restart e))
+  where
+    extended : {i j : ℕ} → Does (over oneWay t bound) x (Extension i j) y → leaf .literal .negative ≡ true
+    extended (extends {leaf = other} k u c a f e) = let same : leaf ≡ other = cc in rw same (u .0)
+
+    restarted : Does (over oneWay t bound) x Restart y → leaf .literal .negative ≡ false
+    restarted (restarts {leaf = other} k u e) = let same : leaf ≡ other = cc in rw same (positive-sign (other .literal .negative) (u .0))
+
+pub base-never-restarts : W.BaseNeverRestarts
+unfolding stepped treated
+base-never-restarts t bound x = go (x .leaves)
+  where
+    go : (ls : List Leaf) → treated (base t bound) x ls Restart ≡ none
+    go [] = refl
+    go (leaf ∷ rest) = refl
+
 pub some-come-before : W.SomeComeBefore
 unfolding Precedes
 some-come-before = (at-once {s = Extension 0 0} {t = Extension 0 1} (inr (refl, omega arith)), λ steps b. one-first steps steps b b)
@@ -421,9 +458,9 @@ bill-is-evidence = record {
 
 pub evidence-asks : W.EvidenceAsks
 unfolding Each
-evidence-asks t e none =
+evidence-asks t e unasked =
     let p = e .possible in
-    e .impossible (p .0) (p .1, subst (λ (θs : List Grounding). QuestionsTrue (p .0) (t .question) θs) (sym none) tt)
+    e .impossible (p .0) (p .1, subst (λ (θs : List Grounding). QuestionsTrue (p .0) (t .question) θs) (sym unasked) tt)
 
 -- an atom's slot; only what is at the matinee is true
 named : Ground → ℕ

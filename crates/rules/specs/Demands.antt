@@ -6,12 +6,12 @@ use mathlib.Core.List.{List, map}
 use mathlib.Core.Logic.{_↔_, _≢_}
 use mathlib.Core.Path.{_≡_}
 use Prim.Native.Nat.{ℕ, _≤_, _<_}
-use Rattle.words.specs.Steps.{encoded, stepOf}
+use Rattle.words.specs.Steps.{encoded}
 use Rattle.words.specs.declared.Step.{Step}
 use Rattle.table.specs.Limits.{Within, Each}
 use Rattle.table.specs.Syntax.{Term, Literal, literalUnder, Table}
 use Rattle.rules.specs.Substitution.{Variable, Substitution, Solves, MostGeneral}
-use Rattle.rules.specs.Setting.{Profile, Setting, over, base}
+use Rattle.rules.specs.Setting.{Profile, readSteps, longestProof, Setting, over, base}
 use Rattle.rules.specs.Tableau.{Tableau, start, Closed}
 use Rattle.rules.specs.Order.{Before, Ending, Searched, First}
 use Rattle.rules.specs.Answer.{perCopy, sameDisjunct, firstsBy, placeBy, disjuncts, occurringAll, firsts, joined, disjunctsIn, Reads, AllDifferent, Ascending}
@@ -25,10 +25,10 @@ use Rattle.rules.specs.Verdict.{CheckVerdict, Checks, SearchVerdict, fin
 use Rattle.rules.specs.Machinery.Play.{Play, passed, check, checked, searchFor, answerOf, disjunctsOf}
 
 -- DEMAND 2
--- What the checker says of a proof's words is what document 01 says, step by step, and there is one verdict alone.
+-- What the checker says of a proof's words, read as the profile reads them, is what document 01 says, step by step, and there is one verdict alone.
 abbrev pub CheckerFollowsTheRules : Type 0
 CheckerFollowsTheRules =
-    (S : Setting) (proof : List ℕ) → Checks S (start (S .table)) 0 (map stepOf proof) (checked (check S (map stepOf proof)))
+    (S : Setting) (proof : List ℕ) → Checks S (start (S .table)) 0 (readSteps (S .profile) proof) (checked (check S (readSteps (S .profile) proof)))
 
 abbrev pub OneCheckVerdict : Type 0
 OneCheckVerdict =
@@ -38,7 +38,7 @@ OneCheckVerdict =
 -- The checker accepts exactly the closed tableaux within the bound, whoever wrote them.
 abbrev pub AcceptsExactlyTheClosed : Type 0
 AcceptsExactlyTheClosed =
-    (S : Setting) (proof : List ℕ) → ((p : Play) × (check S (map stepOf proof) ≡ passed p)) ↔ Closed S (map stepOf proof)
+    (S : Setting) (proof : List ℕ) → ((p : Play) × (check S (readSteps (S .profile) proof) ≡ passed p)) ↔ Closed S (readSteps (S .profile) proof)
 
 -- The stated order has an end, with so many tries, and one alone.
 abbrev pub SearchEnds : Type 0
@@ -129,10 +129,10 @@ DisjunctsAtFirstPlaces = (σ : Substitution) (t : Table) (x : Tableau) → AtFir
 abbrev pub OneListAtFirstPlaces : Type 0
 OneListAtFirstPlaces = (long short other : List (List (Literal Variable))) → AtFirstPlaces sameDisjunct long short → AtFirstPlaces sameDisjunct long other → short ≡ other
 
--- A proof has at most 199 steps, an answer at most 528 different variables.
+-- A proof has at most 199 steps, 231 where leaves are restarted, an answer at most 528 different variables.
 abbrev pub ProofIsShort : Type 0
 ProofIsShort =
-    (S : Setting) → Within (S .table) → S .bound ≤ 32 → (steps : List Step) → Closed S steps → length steps ≤ 199
+    (S : Setting) → Within (S .table) → S .bound ≤ 32 → (steps : List Step) → Closed S steps → length steps ≤ longestProof (S .profile)
 
 abbrev pub AnswerHasFewVariables : Type 0
 AnswerHasFewVariables =
@@ -142,7 +142,7 @@ AnswerHasFewVariables =
 -- Its steps have words of their own, so the words of a proof that was found are accepted.
 abbrev pub ProofHasWords : Type 0
 ProofHasWords =
-    (S : Setting) → Within (S .table) → S .bound ≤ 32 → (steps : List Step) → Closed S steps → map stepOf (map encoded steps) ≡ steps
+    (S : Setting) → Within (S .table) → S .bound ≤ 32 → (steps : List Step) → Closed S steps → readSteps (S .profile) (map encoded steps) ≡ steps
 
 -- DEMAND 3
 -- Each answer found or accepted is true in every interpretation over a finite, non-empty domain where all clauses but the question hold.

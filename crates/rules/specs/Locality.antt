@@ -5,7 +5,7 @@ use mathlib.Core.Logic.{_↔_}
 use mathlib.Core.Path.{_≡_}
 use Prim.Native.Nat.{ℕ}
 use Rattle.words.specs.declared.Step.{Step}
-use Rattle.words.specs.declared.Step.the-variants.{Reduction, Extension, Malformed}
+use Rattle.words.specs.declared.Step.the-variants.{Reduction, Extension, Restart, Malformed}
 use Rattle.table.specs.Syntax.{Table, allClauses}
 use Rattle.rules.specs.System.{_∈_}
 
@@ -13,6 +13,7 @@ use Rattle.rules.specs.System.{_∈_}
 unfoldable pub renumbered : (ℕ → ℕ) → Step → Step
 renumbered number (Reduction height) = Reduction height
 renumbered number (Extension clause literal) = Extension (number clause) literal
+renumbered number Restart = Restart
 renumbered number Malformed = Malformed
 
 -- clause i of one table is clause k of the other (or there is neither), and both are the question or neither is

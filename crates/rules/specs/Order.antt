@@ -1,4 +1,4 @@
--- The stated order (document 01, "Tableau rules"): the candidates of a leaf, one list of steps before another, and the tries that the order needs.
+-- The stated order (document 01, "Tableau rules", and order 11): the candidates of a leaf, one list of steps before another, and the tries that the order needs.
 use mathlib.Core.Bool.{Bool, true, false, cond}
 use mathlib.Core.List.{List, [], _∷_, _++_}
 use mathlib.Core.Logic.{_⊎_}
@@ -6,22 +6,28 @@ use mathlib.Core.Option.{some}
 use mathlib.Core.Path.{_≡_}
 use Prim.Native.Nat.{ℕ, suc, _<_}
 use Rattle.words.specs.declared.Step.{Step}
-use Rattle.words.specs.declared.Step.the-variants.{Reduction, Extension, Malformed}
+use Rattle.words.specs.declared.Step.the-variants.{Reduction, Extension, Restart, Malformed}
 use Rattle.table.specs.Syntax.{Literal, Clause, allClauses}
 use Rattle.rules.specs.Substitution.{Variable, Unifiable}
 use Rattle.rules.specs.Setting.{Setting}
 use Rattle.rules.specs.System as System
 pub use Rattle.rules.specs.System.{found, nothing}
 use Rattle.rules.specs.System.{System}
-use Rattle.rules.specs.Tableau.{copyOf, fits, Leaf, Tableau, mayExtend, stepped, Closed}
+use Rattle.rules.specs.Tableau.{copyOf, fits, Leaf, Tableau, mayExtend, mayRestart, stepped, Closed}
 
--- at a leaf: reductions, nearest ancestor first; then extensions by clause, then literal
+-- at a leaf: reductions, nearest ancestor first; then the restart; then extensions by clause, then literal
 unfoldable pub Precedes : Step → Step → Type 0
 Precedes (Reduction h) (Reduction k) = h < k
 Precedes (Reduction h) (Extension i j) = Unit {0}
+Precedes (Reduction h) Restart = Unit {0}
 Precedes (Reduction h) Malformed = ⊥
+Precedes Restart (Reduction k) = ⊥
+Precedes Restart (Extension k l) = Unit {0}
+Precedes Restart Restart = ⊥
+Precedes Restart Malformed = ⊥
 Precedes (Extension i j) (Reduction k) = ⊥
 Precedes (Extension i j) (Extension k l) = (i < k) ⊎ ((i ≡ k) × (j < l))
+Precedes (Extension i j) Restart = ⊥
 Precedes (Extension i j) Malformed = ⊥
 Precedes Malformed s = ⊥
 
@@ -51,12 +57,13 @@ unfoldable pub extensions : Literal Variable → ℕ → ℕ → List Clause →
 extensions leaf copy clause [] = []
 extensions leaf copy clause (c ∷ cs) = entries leaf clause 0 (copyOf copy c) ++ extensions leaf copy (suc clause) cs
 
--- the candidates of the leftmost open leaf; extensions are none once the bound's are used
+-- the candidates of the leftmost open leaf; neither restart nor extensions are once the bound's are used
 unfoldable pub candidatesAt : Setting → ℕ → List Leaf → List Step
 candidatesAt S used [] = []
 candidatesAt S used (leaf ∷ rest) =
     reductions (leaf .literal) 1 (leaf .branch)
-    ++ cond (mayExtend S used leaf) (extensions (leaf .literal) (suc used) 0 (allClauses (S .table))) []
+    ++ (cond (mayRestart S used leaf) (Restart ∷ []) []
+    ++ cond (mayExtend S used leaf) (extensions (leaf .literal) (suc used) 0 (allClauses (S .table))) [])
 
 unfoldable pub candidates : Setting → Tableau → List Step
 candidates S x = candidatesAt S (x .extensions) (x .leaves)
@@ -66,7 +73,7 @@ unfoldable pub allClosed : List Leaf → Bool
 allClosed [] = true
 allClosed (leaf ∷ rest) = false
 
--- The tableaux in the stated order: a candidate leads on if its pair unifies with what is already bound, and fails if not.
+-- The tableaux in the stated order: a candidate leads on if its pair unifies with what is already bound, and fails if not; a restart has no pair.
 abbrev pub stated : Setting → System
 stated S =
     record {

@@ -1,4 +1,4 @@
--- Tableau rules (document 01): start, leaves, reduction, extension, the bound, and when steps are a closed tableau. No algorithm.
+-- Tableau rules (document 01, and order 11's restart): start, leaves, reduction, extension, the bound, and when steps are a closed tableau. No algorithm.
 use lib.Dec.{eqb, ltb}
 use lib.ListN.{length, take, drop, getElem?}
 use mathlib.Core.Bool.{Bool, true, false, Bool·beq, cond, not, _&&_}
@@ -7,7 +7,7 @@ use mathlib.Core.Option.{Option, none, some}
 use mathlib.Core.Path.{_≡_}
 use Prim.Native.Nat.{ℕ, zero, suc}
 use Rattle.words.specs.declared.Step.{Step}
-use Rattle.words.specs.declared.Step.the-variants.{Reduction, Extension, Malformed}
+use Rattle.words.specs.declared.Step.the-variants.{Reduction, Extension, Restart, Malformed}
 use Rattle.table.specs.Syntax.{Term, var, app, arity, Literal, literalUnder, Clause, Table, allClauses}
 use Rattle.rules.specs.Substitution.{Variable, Pair, Unifiable}
 use Rattle.rules.specs.Setting.{Setting}
@@ -107,9 +107,22 @@ extended t x leaf rest i j (some clause) =
     let copy : List (Literal Variable) = copyOf (suc (x .extensions)) clause in
     entered x leaf rest (questionsWith t i (suc (x .extensions)) (x .questions)) j copy (getElem? copy j)
 
--- a leaf may be extended if the profile lets it and not all of the bound's extensions are used
+-- restart: a copy of the question hangs under the leaf, all its literals open; no pair closes, and it counts as one extension
+abbrev pub afterRestart : Table → Tableau → Leaf → List Leaf → Tableau
+afterRestart t x leaf rest =
+    record {
+      leaves = hang (leaf .literal ∷ leaf .branch) (copyOf (suc (x .extensions)) (t .question)) ++ rest;
+      pairs = x .pairs;
+      extensions = suc (x .extensions);
+      questions = x .questions ++ (suc (x .extensions) ∷ []);
+    }
+
+-- a leaf may be extended or restarted if the profile lets it and not all of the bound's extensions are used
 abbrev pub mayExtend : Setting → ℕ → Leaf → Bool
 mayExtend S used leaf = S .profile .extends (leaf .literal .negative) && ltb used (S .bound)
+
+abbrev pub mayRestart : Setting → ℕ → Leaf → Bool
+mayRestart S used leaf = S .profile .restarts (leaf .literal .negative) && ltb used (S .bound)
 
 -- each step treats the leftmost open leaf; the bound limits extensions, and reductions are free
 unfoldable pub treated : Setting → Tableau → List Leaf → Step → Option Tableau
@@ -117,6 +130,7 @@ treated S x [] s = none
 treated S x (leaf ∷ rest) (Reduction height) = reduced x leaf rest (ancestor height (leaf .branch))
 treated S x (leaf ∷ rest) (Extension i j) =
     cond (mayExtend S (x .extensions) leaf) (extended (S .table) x leaf rest i j (getElem? (allClauses (S .table)) i)) none
+treated S x (leaf ∷ rest) Restart = cond (mayRestart S (x .extensions) leaf) (some (afterRestart (S .table) x leaf rest)) none
 treated S x (leaf ∷ rest) Malformed = none
 
 unfoldable pub stepped : Setting → Tableau → Step → Option Tableau

@@ -44,7 +44,8 @@ pub data Checks (S : Setting) : Tableau → ℕ → List Step → CheckVerdict �
       → Checks S x place [] (refused leaves-open place)
   -- 12: malformed step
   no-step : {x : Tableau} {place : ℕ} {ss : List Step} → Checks S x place (Malformed ∷ ss) (refused malformed place)
-  -- 13: well formed, but no leaf open, no such ancestor, clause or literal, pair not fitting, or extensions over the bound
+  -- 13: well formed, but no leaf open, no such ancestor, clause or literal, pair not fitting, extensions over the bound, or a step that the leaf's
+  -- sign doesn't allow
   no-tableau : {x : Tableau} {place : ℕ} {s : Step} {ss : List Step} → s ≢ Malformed → stepped S x s ≡ none
       → Checks S x place (s ∷ ss) (refused not-allowed place)
   -- 14 and 20: pair doesn't unify with what is bound; the checker passes the reason on

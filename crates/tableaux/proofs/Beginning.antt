@@ -20,7 +20,7 @@ use Rattle.index.proofs.Cleared.{cleared-below, cleared-zero, cleared-length, c
 use Rattle.tableaux.proofs.Copies.{start-good}
 use Rattle.tableaux.proofs.Literals.{clause-some, clause-few, hanging-all, copy-all}
 use Rattle.tableaux.proofs.Hung.{hung-copies, hung-start, hung-carries, hung-good, hung-noted, hung-open, hung-high}
-use Rattle.tableaux.proofs.Extending.{hang-length}
+use Rattle.tableaux.proofs.Opening.{hang-length}
 
 -- the words before the leaves cleared, and those after the steps
 pub first-size : (m : List ℕ) {m₁ : List ℕ} → length m ≡ 16384 → m₁ ≡ take 0 m ++ replicate 1216 0 ++ drop (0 + 1216) m → length m₁ ≡ 16384

@@ -27,7 +27,7 @@ module _ {A : Type 0} (item : ℕ → A) (link : ℕ → ℕ) (n head : ℕ) (so
       sym (ap (λ (x : ℕ). chain item link x (link (head - 1))) (sym k) ∙ chain-past item link (head - 1) (n - (head - 1)) (link (head - 1)) low)
 
 module _ {f m : List ℕ} {place : Place} (r : Ready f m place) where
-  pub leaves-few : place .leaves ≤ 199
+  pub leaves-few : place .leaves ≤ 231
   leaves-few = omega (arith, r .room, r .good .copies)
 
   pub count-few : countOf m ≤ 528

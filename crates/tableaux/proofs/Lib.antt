@@ -3,7 +3,9 @@ pub mod Chains
 pub mod Hanging
 pub mod Literals
 pub mod Leaves
+pub mod Opening
 pub mod Extending
+pub mod Restarting
 pub mod Kept
 pub mod Leftmost
 pub mod Reducing

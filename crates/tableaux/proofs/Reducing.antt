@@ -3,7 +3,7 @@ use mathlib.Core.Path.{_≡_, refl, _∙_}
 use mathlib.Core.List.{List}
 use Prim.Native.Nat.{ℕ, _+_, _-_, _≤_, _<_}
 use native.Mathlib.Omega.{arith}
-use lib.ListN.{getD, set, length-set}
+use lib.ListN.{length, getD, set, length-set}
 use lib.Seq.{getD-set-same, getD-set-other}
 use Rattle.rules.specs.Tableau.{atom}
 use Rattle.rules.specs.Machinery.Unify.{unify}
@@ -73,6 +73,9 @@ module _ {f m : List ℕ} {place : Place} {ancestor : ℕ} (r : Reducible f m pl
 
   pub reduce-good : Good f begun
   reduce-good = good-carried (r .ready .good) carries
+
+  pub reduce-small : (length m ≡ 16384) × (place .steps < 231)
+  reduce-small = (r .ready .good .size, omega (arith, leaves-few (r .ready), steps-few (r .ready) (r .some-open)))
 
   leaf-stands : LiteralStands f m (leafOf m place)
   leaf-stands = r .ready .noted .stands (place .head - 1) (leaf-noted (r .ready) (r .some-open))

@@ -35,7 +35,7 @@ pub record Ready (f m : List ℕ) (place : Place) : Type 0 where
   pub noted : Noted f m (place .leaves)
   pub head : place .head ≤ place .leaves
   pub begun : 1 ≤ copiesOf m
-  pub room : place .leaves ≤ 1 + 6 * copiesOf m
+  pub room : place .leaves ≤ 7 * copiesOf m
   pub taken : place .steps + length (openLeaves f m place) ≡ place .leaves
 
 -- the tableau and the bindings that they stand for
@@ -109,12 +109,16 @@ pub record Reduced (f m m′ : List ℕ) (place : Place) (ancestor step : ℕ) (
   pub leaves : openLeaves f m′ (r .place) ≡ leavesFrom f m (place .leaves) (restOf m place)
   pub steps : r .place .steps ≡ place .steps + 1
 
--- an extension of the leftmost leaf by a copy of the clause at a position, entered at an offset
-pub record Extensible (f m : List ℕ) (place : Place) (start offset : ℕ) : Type 0 where
+-- a copy of the clause at a position can hang under the leftmost leaf
+pub record Openable (f m : List ℕ) (place : Place) (start : ℕ) : Type 0 where
   pub ready : Ready f m place
   pub some-open : 0 < place .head
   pub copies : copiesOf m < 33
   pub clause : ClauseAt f start
+
+-- an extension of the leftmost leaf by a copy of the clause at a position, entered at an offset
+pub record Extensible (f m : List ℕ) (place : Place) (start offset : ℕ) : Type 0 where
+  pub openable : Openable f m place start
   pub number : ℕ
   pub entered : getElem? (offsetsAt f start) number ≡ some offset
   pub alike : Alike (wordAt f m (leafOf m place)) (getD f (start + offset) 0)
@@ -123,7 +127,7 @@ pub record Extensible (f m : List ℕ) (place : Place) (start offset : ℕ) : Ty
 abbrev pub opened : List ℕ → ℕ → ℕ → ℕ → List ℕ
 opened m start steps step = set (set (set m (1984 + steps) step) (0 + copiesOf m) start) 33 (copiesOf m + 1)
 
--- the literals that hang: all but the one that is entered
+-- the literals that hang: all but the one that is entered; none is entered at offset 0, where the clause word stands
 abbrev pub hangingAt : List ℕ → ℕ → ℕ → List ℕ
 hangingAt f start offset = hanging offset 1 (drop 1 (ownWords f start))
 
@@ -141,7 +145,7 @@ placeUnder f m place start offset =
       steps = place .steps + 1;
     }
 
--- the copy's other literals hang under the leaf
+-- the copy's literals, but for the one entered, hang under the leaf
 pub record Hung (f m m′ : List ℕ) (place next : Place) (start offset : ℕ) : Type 0 where
   pub ready : Ready f m′ next
   pub leaves :
@@ -151,11 +155,21 @@ pub record Hung (f m m′ : List ℕ) (place next : Place) (start offset : ℕ) 
       ++ leavesFrom f m (place .leaves) (restOf m place)
   pub steps : next .steps ≡ place .steps + 1
 
-pub record Extended (f m m′ : List ℕ) (place : Place) (start offset step : ℕ) (r : Taken) : Type 0 where
+-- one copy more, of the clause at a position
+pub record OneMore (f m m′ : List ℕ) (place : Place) (start step : ℕ) : Type 0 where
   pub stepping : Stepping f m m′ place step
+  pub copies : copiesOf m′ ≡ copiesOf m + 1
+  pub starts : startAt m′ (copiesOf m) ≡ start
+
+pub record Extended (f m m′ : List ℕ) (place : Place) (start offset step : ℕ) (r : Taken) : Type 0 where
+  pub copied : OneMore f m m′ place start step
   pub outcome :
       Outcome f m′ (r .meeting)
       (unify (bound f m) (atom (literalAtReference f m (leafOf m place))) (atom (literalAtReference f m′ (copiesOf m * 256 + offset))))
-  pub copies : copiesOf m′ ≡ copiesOf m + 1
-  pub starts : startAt m′ (copiesOf m) ≡ start
   pub hung : r .meeting ≡ Made → Hung f m m′ place (r .place) start offset
+
+-- a restart: nothing is bound, and all of the question's literals hang under the leaf
+pub record Restarted (f m m′ : List ℕ) (place : Place) (question step : ℕ) (next : Place) : Type 0 where
+  pub copied : OneMore f m m′ place question step
+  pub bindings : bound f m′ ≡ bound f m
+  pub hung : Hung f m m′ place next question 0

@@ -11,7 +11,7 @@ ghost use lib.ListN.{length, drop, getD, set};
 ghost use Rattle.words.specs.Fields.{literalsOf};
 ghost use Rattle.unification.specs.State.{copiesOf, literalAt, parentAt, nextAt, ownWords, ClauseAt};
 ghost use Rattle.tableaux.specs.Leaves.{hangs, hanging, noted, hung};
-ghost use Rattle.tableaux.specs.Ready.{Ready, NotesKept, Begun, Reducible, Reduced, Extensible, Extended, opened, hangingAt, headAfter, hungUnder, placeUnder};
+ghost use Rattle.tableaux.specs.Ready.{Ready, NotesKept, Begun, Reducible, Reduced, Openable, Extensible, Extended, Restarted, opened, hangingAt, headAfter, hungUnder, placeUnder};
 
 // The leftmost open leaf and one, 0 where none is open; the leaves noted, and the steps taken.
 pub struct Place {
@@ -36,7 +36,8 @@ fn note(work: &mut [u32], leaf: u32, literal: u32, parent: u32, next: u32)
     work[memory::NEXT + at] = next;
 }
 
-fn hangs(word: u32, offset: u32, entered: u32) -> bool
+// Whether a word's literal hangs as a leaf: it is not the one entered.
+pub fn hangs(word: u32, offset: u32, entered: u32) -> bool
     ensures { λ r. ⌜ r ≡ hangs entered offset word ⌝ }
 {
     if fields::kind(word) == 2 {
@@ -177,22 +178,22 @@ fn open_copy(work: &mut [u32], start: u32, steps: u32, step: u32) -> u32
     copy
 }
 
-// The literals of a copy, but for the one entered, hang under the leftmost leaf.
-fn hang_others(
+// So many literals of a copy, all but the one entered, hang under the leftmost leaf.
+fn hang_under(
     file: &[u32],
     work: &mut [u32],
     place: Place,
     start: u32,
     copy: u32,
     offset: u32,
+    count: u32,
 ) -> Place
-    requires { ⌜ (length (now work) ≡ 16384) × (copy < 33) × (start < length (now file)) × (0 < place .head) × (place .head ≤ place .leaves) × (place .leaves ≤ 199) × (place .steps < 231) ⌝ }
-    requires { ⌜ (length (hangingAt (now file) start offset) ≡ literalsOf (getD (now file) start 0) - 1) × (1 ≤ literalsOf (getD (now file) start 0)) ⌝ }
+    requires { ⌜ (length (now work) ≡ 16384) × (copy < 33) × (0 < place .head) × (place .head ≤ place .leaves) × (place .leaves < 231) × (place .leaves + count ≤ 231) × (place .steps < 231) ⌝ }
+    requires { ⌜ count ≡ length (hangingAt (now file) start offset) ⌝ }
     ensures { λ r. ⌜ (r ≡ placeUnder (now (file .entry)) (now (work .entry)) place start offset) × (now (work .exit) ≡ hungUnder (now (file .entry)) (now (work .entry)) place start copy offset) ⌝ }
 {
     let head = place.head;
     let leaves = place.leaves;
-    let count = literals_at(file, start) - 1;
     let rest = right_of(work, head);
     hang(file, work, start, copy, offset, count, head, rest, leaves);
     Place {
@@ -223,8 +224,19 @@ pub fn extend(
             place,
         };
     };
+    let others = literals_at(file, start) - 1;
     Taken {
         meeting: met,
-        place: hang_others(file, work, place, start, copy, offset),
+        place: hang_under(file, work, place, start, copy, offset, others),
     }
+}
+
+// A copy of the question hangs under the leftmost leaf, all its literals open.
+pub fn restart(file: &[u32], work: &mut [u32], place: Place, question: u32, step: u32) -> Place
+    requires { ⌜ Openable (now file) (now work) place question ⌝ }
+    ensures { λ r. ⌜ Restarted (now (file .entry)) (now (work .entry)) (now (work .exit)) place question step r ⌝ }
+{
+    let copy = open_copy(work, question, place.steps, step);
+    let count = literals_at(file, question);
+    hang_under(file, work, place, question, copy, 0, count)
 }

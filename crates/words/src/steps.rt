@@ -1,12 +1,14 @@
-// A step decoded from a word and encoded again (document 01, "Tableau rules").
+// A step decoded from a word and encoded again (document 01, "Tableau rules", and order 11).
 ghost use mathlib.Core.Path.{_≡_};
-ghost use Rattle.words.specs.Steps.{stepOf, encoded};
+ghost use Rattle.words.specs.Steps.{stepOf, stepRead, encoded};
 use crate::Step;
 use crate::fields::bits;
 use crate::fields::join;
 use crate::fields::plain;
 
-const MALFORMED: u32 = 0x8000_0000;
+const RESTART: u32 = 0x8000_0000;
+
+const MALFORMED: u32 = 0xC000_0000;
 
 pub fn decode(w: u32) -> Step
     ensures { λ r. ⌜ r ≡ stepOf w ⌝ }
@@ -22,6 +24,19 @@ pub fn decode(w: u32) -> Step
         return Step::Extension(bits(w, 0, 9), bits(w, 9, 3));
     }
     Step::Malformed
+}
+
+// The reading where leaves are restarted (order 11), or document 01's.
+pub fn decode_for(restarts: bool, w: u32) -> Step
+    ensures { λ r. ⌜ r ≡ stepRead restarts w ⌝ }
+{
+    if !restarts {
+        return decode(w);
+    }
+    if w == RESTART {
+        return Step::Restart;
+    }
+    decode(w)
 }
 
 fn reduction(height: u32) -> u32
@@ -55,6 +70,7 @@ pub fn encode(s: Step) -> u32
     match s {
         Step::Reduction(height) => reduction(height),
         Step::Extension(clause, literal) => extension(clause, literal),
+        Step::Restart => RESTART,
         Step::Malformed => MALFORMED,
     }
 }

@@ -84,13 +84,13 @@ module _ (ns : List Name) (own : List ℕ) {b : Bool} (e : b ≡ begins own) whe
 pub ruleset told-laws = (told-name, told-number)
 
 module _ (s : Step) {w : ℕ} (e : w ≡ encoded s) where
-  pub made-wrong : w ≡ 0x80000000 → Wrong ≡ stepMade s
+  pub made-wrong : w ≡ 0xC0000000 → Wrong ≡ stepMade s
   unfolding stepMade
-  made-wrong h = rw (← e, eq-eqb w 0x80000000 h)
+  made-wrong h = rw (← e, eq-eqb w 0xC0000000 h)
 
-  pub made-step : (w ≡ 0x80000000 → ⊥) → Makes w ≡ stepMade s
+  pub made-step : (w ≡ 0xC0000000 → ⊥) → Makes w ≡ stepMade s
   unfolding stepMade
-  made-step h = rw (← e, ne-eqb w 0x80000000 h)
+  made-step h = rw (← e, ne-eqb w 0xC0000000 h)
 
 module _ {i : ℕ} where
   pub a-named : i < 512 → Awaits (Literal i) ≡ clauseMade i

@@ -9,7 +9,7 @@ use borrow.Author.Tests.{ltb-true, leb-true, eqb-true, lt-leb, lt-ltb, ne-eqb, l
 use lib.Dec.{eqb, leb, ltb}
 use lib.ListN.{length, take, drop, getD}
 use Rattle.words.specs.declared.Step.{Step}
-use Rattle.words.specs.declared.Step.the-variants.{Reduction, Extension, Malformed}
+use Rattle.words.specs.declared.Step.the-variants.{Reduction, Extension, Restart, Malformed}
 use Rattle.words.specs.Steps.{stepOf, encoded, wellFormed}
 use Rattle.words.proofs.Roundtrip.{decoded, encode-decode}
 use Rattle.clausetext.specs.Kinds.{kindOf, signKind, letterKind}
@@ -142,7 +142,7 @@ verbs : (verbTurn (bytes "reduce") ≡ Awaits Height) × (verbTurn (bytes "exten
 unfolding verbTurn sameBytes
 verbs = (refl, refl)
 
-sound-word : (w : ℕ) → (stepOf w ≡ Malformed → ⊥) → w ≡ 0x80000000 → ⊥
+sound-word : (w : ℕ) → (stepOf w ≡ Malformed → ⊥) → w ≡ 0xC0000000 → ⊥
 unfolding stepOf
 sound-word w n e = n (rw e)
 
@@ -151,7 +151,7 @@ unfolding stepMade
 made w h s e n =
     let k : stepOf w ≡ Malformed → ⊥ = λ z. n (sym e ∙ z) in
     let c : encoded s ≡ w = rw (← e) (encode-decode w h k) in
-    rw (c, ne-eqb w 0x80000000 (sound-word w k))
+    rw (c, ne-eqb w 0xC0000000 (sound-word w k))
 
 -- a step's text is read as its word, wherever the text goes on
 pub record Goes (ns : List Name) (end at w : ℕ) (text rest : List ℕ) : Type 0 where
@@ -167,15 +167,15 @@ hex-some : (w : ℕ) → some-bytes (hexText w) ≡ true
 unfolding digitsOf
 hex-some w = digits-solid 16 8 w
 
-low-height : (height : ℕ) → wellFormed (Reduction height) ≡ true → height < 512
+low-height : (height : ℕ) → wellFormed false (Reduction height) ≡ true → height < 512
 unfolding wellFormed
 low-height height k = omega (arith, leb-true height 63 (and-right (leb 1 height) (leb height 63) k))
 
-low-clause : (i j : ℕ) → wellFormed (Extension i j) ≡ true → i < 512
+low-clause : (i j : ℕ) → wellFormed false (Extension i j) ≡ true → i < 512
 unfolding wellFormed
 low-clause i j k = ltb-true i (2 ^ 9) (and-left (ltb i (2 ^ 9)) (ltb j (2 ^ 3)) k)
 
-low-literal : (i j : ℕ) → wellFormed (Extension i j) ≡ true → j < 512
+low-literal : (i j : ℕ) → wellFormed false (Extension i j) ≡ true → j < 512
 unfolding wellFormed
 low-literal i j k = omega (arith, ltb-true j (2 ^ 3) (and-right (ltb i (2 ^ 9)) (ltb j (2 ^ 3)) k))
 
@@ -185,8 +185,8 @@ no-height height e = let z : _≡_ {A = ℕ} 0 1 = cc in omega arith
 no-extension : (i j : ℕ) → Extension i j ≡ Malformed → ⊥
 no-extension i j e = let z : _≡_ {A = ℕ} 0 1 = cc in omega arith
 
-well : (w : ℕ) → w < 2 ^ 32 → (s : Step) → stepOf w ≡ s → (s ≡ Malformed → ⊥) → wellFormed s ≡ true
-well w h s e n = rw e at (decoded w h (λ z. n (sym e ∙ z)) .well)
+well : (w : ℕ) → w < 2 ^ 32 → (s : Step) → stepOf w ≡ s → (s ≡ Malformed → ⊥) → wellFormed false s ≡ true
+well w h s e n = rw e at (decoded w h (λ z. n (sym e ∙ z)) .well false)
 
 -- a clause's text tells the clause
 both : (x y : Bool) → cond x y false ≡ true → (x ≡ true) × (y ≡ true)
@@ -266,6 +266,7 @@ module _ (ns : List Name) (end at w : ℕ) (rest : List ℕ) (h : w < 2 ^ 32) wh
       go : (s : Step) → stepOf w ≡ s → Goes ns end at w (textOf ns w s) rest
       go (Reduction height) e = goes-height height e
       go (Extension i j) e = goes-clause solids i j e
+      go Restart e = goes-word
       go Malformed e = goes-word
 
 all-read : (ns : List Name) → ((k : ℕ) → solid (nameOf ns k) ≡ true) → (end at : ℕ) (ws : List ℕ) → Words ws

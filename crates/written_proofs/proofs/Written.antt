@@ -7,7 +7,7 @@ use borrow.Author.Tests.{eq-eqb, ne-eqb}
 use lib.Dec.{eqb}
 use lib.ListN.{length, take, drop, getD, drop-of-length-le}
 use Rattle.words.specs.declared.Step.{Step}
-use Rattle.words.specs.declared.Step.the-variants.{Reduction, Extension, Malformed}
+use Rattle.words.specs.declared.Step.the-variants.{Reduction, Extension, Restart, Malformed}
 use Rattle.words.specs.Steps.{stepOf}
 use Rattle.names.specs.Numbers.{Name}
 use Rattle.text.specs.Put.{Put}
@@ -56,11 +56,15 @@ module _ (ns : List Name) (w : ℕ) {s : Step} (e : s ≡ stepOf w) {out left : 
   unfolding stepText
   step-extension k p = rw (← e, k) p
 
+  pub step-restart : s ≡ Restart → Put out from (hexText w) left end → Put out from (stepText ns w) left end
+  unfolding stepText
+  step-restart k p = rw (← e, k) p
+
   pub step-none : s ≡ Malformed → Put out from (hexText w) left end → Put out from (stepText ns w) left end
   unfolding stepText
   step-none k p = rw (← e, k) p
 
-pub ruleset step-laws = (step-reduction, step-extension, step-none)
+pub ruleset step-laws = (step-reduction, step-extension, step-restart, step-none)
 
 module _ (ns : List Name) (steps : List ℕ) {first : List ℕ} {from : ℕ} {whole out : List ℕ} {at i : ℕ} (l : Left first from whole out at (stepsText ns (drop i steps))) where
   pub steps-more : i < length steps → {mid : List ℕ} {next : ℕ} → Put out at (stepText ns (getD steps i 0)) mid next → {out' : List ℕ} {at' : ℕ} → Put mid next (10 ∷ []) out' at'

@@ -56,7 +56,7 @@ clauseSaid ns p = cond (begins p) (only ns p) (numberSaid p)
 
 -- a step, if a word holds it
 unfoldable pub stepMade : Step → Turn
-stepMade s = cond (eqb (encoded s) 0x80000000) Wrong (Makes (encoded s))
+stepMade s = cond (eqb (encoded s) 0xC0000000) Wrong (Makes (encoded s))
 
 abbrev pub wordMade : Option ℕ → Turn
 wordMade none = Wrong

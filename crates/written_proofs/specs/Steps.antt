@@ -6,7 +6,7 @@ use Prim.Native.Nat.{ℕ, zero, suc}
 use lib.Dec.{eqb, ltb}
 use lib.ListN.{getD}
 use Rattle.words.specs.declared.Step.{Step}
-use Rattle.words.specs.declared.Step.the-variants.{Reduction, Extension, Malformed}
+use Rattle.words.specs.declared.Step.the-variants.{Reduction, Extension, Restart, Malformed}
 use Rattle.words.specs.Steps.{stepOf}
 use Rattle.names.specs.Numbers.{Name}
 use Rattle.names.specs.Noting.{namesAt}
@@ -50,10 +50,11 @@ clauseText ns i = cond (tells ns (nameOf ns i) i) (nameOf ns i) (decimalText i)
 abbrev pub extensionText : List Name → ℕ → ℕ → List ℕ
 extensionText ns i j = bytes "extend " ++ clauseText ns i ++ (bytes " " ++ decimalText j)
 
--- a step; a word that is none is written as it is, in hexadecimal digits
+-- a step of document 01's rules, none of which is a restart; a word that is none is written as it is, in hexadecimal digits
 abbrev pub textOf : List Name → ℕ → Step → List ℕ
 textOf ns w (Reduction height) = bytes "reduce " ++ decimalText height
 textOf ns w (Extension i j) = extensionText ns i j
+textOf ns w Restart = hexText w
 textOf ns w Malformed = hexText w
 
 unfoldable pub stepText : List Name → ℕ → List ℕ

@@ -79,7 +79,7 @@ fn made(step: Step) -> Turn
     ensures { λ r. ⌜ r ≡ stepMade step ⌝ }
 {
     let w = encode(step);
-    if w == 0x8000_0000 {
+    if w == 0xC000_0000 {
         return Turn::Wrong;
     }
     Turn::Makes(w)

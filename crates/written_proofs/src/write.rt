@@ -47,6 +47,7 @@ fn step(text: &[u8], places: &[u32], w: u32, out: &mut [u8], from: usize) -> usi
     match decode(w) {
         Step::Reduction(height) => put::field(out, from, b"reduce ", height),
         Step::Extension(clause, literal) => extension(text, places, clause, literal, out, from),
+        Step::Restart => put::hex(out, from, w),
         Step::Malformed => put::hex(out, from, w),
     }
 }

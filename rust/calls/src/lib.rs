@@ -10,7 +10,7 @@ mod slim;
 mod smallest;
 mod tptp;
 
-use engine::{Desk, Report};
+use engine::{Asker, Desk, Reading, Report};
 use line::Line;
 use std::io::{self, BufRead, BufWriter, Write};
 use std::ops::Range;
@@ -20,10 +20,10 @@ pub trait Engine {
     /// Which words of the file are the clause's; nothing where the file or the number is refused.
     fn lookup(&mut self, file: &[u32], number: u32) -> Option<Range<usize>>;
 
-    fn search(&mut self, desk: Desk, file: &[u32], bound: u32, budget: u32, lent: Lent) -> Report;
+    fn search(&mut self, asker: Asker, file: &[u32], bound: u32, budget: u32, lent: Lent) -> Report;
 
     /// The proof buffer is not used.
-    fn check(&mut self, desk: Desk, file: &[u32], offered: &[u32], bound: u32, lent: Lent) -> Report;
+    fn check(&mut self, asker: Asker, file: &[u32], offered: &[u32], bound: u32, lent: Lent) -> Report;
 }
 
 pub struct Lent<'a> {
@@ -40,12 +40,12 @@ impl Engine for Plain {
         engine::clause_range(file, number)
     }
 
-    fn search(&mut self, desk: Desk, file: &[u32], bound: u32, budget: u32, lent: Lent) -> Report {
-        engine::search_for(desk, file, bound, budget, lent.work, lent.proof, lent.answer)
+    fn search(&mut self, asker: Asker, file: &[u32], bound: u32, budget: u32, lent: Lent) -> Report {
+        engine::search_for(asker, file, bound, budget, lent.work, lent.proof, lent.answer)
     }
 
-    fn check(&mut self, desk: Desk, file: &[u32], offered: &[u32], bound: u32, lent: Lent) -> Report {
-        engine::check_for(desk, file, offered, bound, lent.work, lent.answer)
+    fn check(&mut self, asker: Asker, file: &[u32], offered: &[u32], bound: u32, lent: Lent) -> Report {
+        engine::check_for(asker, file, offered, bound, lent.work, lent.answer)
     }
 }
 
@@ -69,16 +69,22 @@ pub fn respond(engine: &mut impl Engine, line: &[u8]) -> Option<String> {
     Some(result.unwrap_or("error".to_owned()))
 }
 
+const RESTART_FOR_EDUCATION: Asker = Asker { desk: Desk::Education, reading: Reading::Restart };
+
 /// Each verb is a row here and a function of its own.
 fn perform(engine: &mut impl Engine, line: &Line) -> Option<String> {
     match line.verb {
         "lookup" => base::lookup(engine, line),
-        "search" => base::search(engine, Desk::Collections, line),
-        "check" => base::check(engine, Desk::Collections, line),
+        "search" => base::search(engine, Asker::BASE, line),
+        "check" => base::check(engine, Asker::BASE, line),
         "desk" => desk::respond(line),
-        "edu-check" => base::check(engine, Desk::Education, line),
-        "edu-search" => base::search(engine, Desk::Education, line),
+        "edu-check" => base::check(engine, Desk::Education.into(), line),
+        "edu-search" => base::search(engine, Desk::Education.into(), line),
         "listing" => listing::respond(line),
+        "restart-check" => base::check(engine, Reading::Restart.into(), line),
+        "restart-edu-check" => base::check(engine, RESTART_FOR_EDUCATION, line),
+        "restart-edu-search" => base::search(engine, RESTART_FOR_EDUCATION, line),
+        "restart-search" => base::search(engine, Reading::Restart.into(), line),
         "season" => season::respond(engine, line),
         "slim" => slim::respond(line),
         "smallest" => smallest::respond(engine, line),

@@ -3,7 +3,7 @@
 use crate::buffers::{Buffers, hex, mark};
 use crate::line::{ANSWER_ROOM, FILE_ROOM, Line, PROOF_ROOM, WORK_ROOM, length, words};
 use crate::{Engine, Lent};
-use engine::{Desk, Status};
+use engine::{Asker, Status};
 use orders::season::{Asked, Season, season};
 
 const ENTRIES_ROOM: usize = 16_400;
@@ -19,7 +19,7 @@ pub fn respond(engine: &mut impl Engine, line: &Line) -> Option<String> {
     let asked = Asked { table: &table, entries: &entries, list: &list };
     let Lent { work, proof, answer } = buffers.lend();
     let report = season(asked, work, proof, answer, |file, bound, budget, work, proof, answer| {
-        engine.search(Desk::Collections, file, bound, budget, Lent { work, proof, answer })
+        engine.search(Asker::BASE, file, bound, budget, Lent { work, proof, answer })
     });
     let intact = buffers.work_as_promised(report.status == Status::WorkTooShort as u32);
     let (proof, answer) = buffers.fronts();

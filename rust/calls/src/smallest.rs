@@ -2,7 +2,7 @@
 
 use crate::line::Line;
 use crate::{Engine, Lent, base};
-use engine::{Desk, LARGEST_BOUND, Report, Status};
+use engine::{Asker, LARGEST_BOUND, Report, Status};
 
 pub fn respond(engine: &mut impl Engine, line: &Line) -> Option<String> {
     let mut bound = 0;
@@ -24,7 +24,7 @@ fn smallest(engine: &mut impl Engine, file: &[u32], limit: u32, budget: u32, len
     let first = if limit > LARGEST_BOUND { limit } else { 0 };
     let mut used = 0;
     for bound in first..=limit {
-        let report = engine.search(Desk::Collections, file, bound, budget - used, Lent { work, proof, answer });
+        let report = engine.search(Asker::BASE, file, bound, budget - used, Lent { work, proof, answer });
         match report.status {
             Status::NoProof => used += report.tries,
             Status::RanOut => return Smallest { bound: 0, report: Report { tries: budget, ..report } },

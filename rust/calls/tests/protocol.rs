@@ -67,6 +67,18 @@ fn education_asks_by_verbs_of_its_own() {
 }
 
 #[test]
+fn rules_read_one_way_have_verbs_of_their_own() {
+    let found = "status 0 place 0 proof 3 disjuncts 2 answer 6 tries 4 / 40000000 80000000 00000001 / \
+                 80002001 40000001 40000002 80002001 40000001 40000003";
+    for desk in ["restart", "restart-edu"] {
+        assert_eq!(result(&format!("{desk}-search 2 4 16384 231 6 / {CASE_1}")), found);
+        assert!(result(&format!("{desk}-search 2 4 16384 230 6 / {CASE_1}")).starts_with("status 2 "));
+        assert!(result(&format!("{desk}-check 2 16384 6 / 40000000 80000000 1 / {CASE_1}")).starts_with("status 0 "));
+    }
+    assert!(result(&format!("check 2 16384 6 / 40000000 80000000 1 / {CASE_1}")).starts_with("status 12 place 1 "));
+}
+
+#[test]
 fn words_of_one_to_eight_digits_in_either_case() {
     let short =
         CASE_1.split(' ').map(|word| word.trim_start_matches('0')).map(|word| if word.is_empty() { "0" } else { word });

@@ -5,7 +5,7 @@
 //! work words are only wiped.
 
 mod answer;
-mod desk;
+mod asker;
 mod equations;
 pub mod file;
 mod list;
@@ -18,8 +18,9 @@ pub mod syntax;
 pub mod tableau;
 pub mod word;
 
-pub use desk::Desk;
+pub use asker::{Asker, Desk, Reading};
 pub use equations::Unequal;
+use file::QuestionFile;
 pub use report::{Report, Status};
 use search::{End, Search};
 use std::ops::Range;
@@ -29,6 +30,7 @@ use tableau::{Obstacle, Tableau};
 
 pub const WORK_WORDS: usize = 16_384;
 pub const PROOF_WORDS: usize = 199;
+pub const RESTART_PROOF_WORDS: usize = 231;
 pub const LARGEST_BOUND: u32 = 32;
 
 /// The words of a clause as a part of the file; empty where the file or the number is refused.
@@ -48,11 +50,11 @@ pub fn search(
     proof: &mut [u32],
     answer: &mut [u32],
 ) -> Report {
-    search_for(Desk::Collections, file, bound, budget, work, proof, answer)
+    search_for(Asker::BASE, file, bound, budget, work, proof, answer)
 }
 
 pub fn search_for(
-    desk: Desk,
+    asker: impl Into<Asker>,
     file: &[u32],
     bound: u32,
     budget: u32,
@@ -63,21 +65,22 @@ pub fn search_for(
     if !wipe(work) {
         return Report::of(Status::WorkTooShort);
     }
-    if proof.len() < PROOF_WORDS {
+    let asker = asker.into();
+    if proof.len() < asker.reading.proof_words() {
         return Report::of(Status::ProofTooShort);
     }
-    match admit(desk, file, bound) {
-        Ok(table) => search_table(Tableau::start(&table, bound), budget, proof, answer),
+    match admit(asker, file, bound) {
+        Ok(table) => search_table(Tableau::read(&table, bound, asker.reading), budget, proof, answer),
         Err(report) => report,
     }
 }
 
 pub fn check(file: &[u32], offered: &[u32], bound: u32, work: &mut [u32], answer: &mut [u32]) -> Report {
-    check_for(Desk::Collections, file, offered, bound, work, answer)
+    check_for(Asker::BASE, file, offered, bound, work, answer)
 }
 
 pub fn check_for(
-    desk: Desk,
+    asker: impl Into<Asker>,
     file: &[u32],
     offered: &[u32],
     bound: u32,
@@ -87,8 +90,9 @@ pub fn check_for(
     if !wipe(work) {
         return Report::of(Status::WorkTooShort);
     }
-    match admit(desk, file, bound) {
-        Ok(table) => check_table(Tableau::start(&table, bound), offered, answer),
+    let asker = asker.into();
+    match admit(asker, file, bound) {
+        Ok(table) => check_table(Tableau::read(&table, bound, asker.reading), offered, answer),
         Err(report) => report,
     }
 }
@@ -102,16 +106,26 @@ fn wipe(work: &mut [u32]) -> bool {
     true
 }
 
-/// The table that the desk sees, after the checks 3 to 9 and 21 of the whole file.
-fn admit(desk: Desk, file: &[u32], bound: u32) -> Result<Table, Report> {
+/// The table that the desk sees, after the checks 3 to 9, 21 and 22 of the whole file.
+fn admit(asker: Asker, file: &[u32], bound: u32) -> Result<Table, Report> {
     if bound > LARGEST_BOUND {
         return Err(Report::of(Status::BoundTooLarge));
     }
-    let table = file::read(file)?.table;
-    Ok(match desk {
-        Desk::Collections => table,
-        Desk::Education => table.unrestricted(),
+    let read = file::read(file)?;
+    if asker.reading == Reading::Restart {
+        enterable(&read)?;
+    }
+    Ok(match asker.desk {
+        Desk::Collections => read.table,
+        Desk::Education => read.table.unrestricted(),
     })
+}
+
+/// Refuses the first clause other than the question without a positive literal: no step could copy it.
+fn enterable(file: &QuestionFile) -> Result<(), Report> {
+    let clauses = &file.table.clauses[..file.table.question_number()];
+    let negative = clauses.iter().position(|clause| clause.literals.iter().all(|literal| literal.negative));
+    negative.map_or(Ok(()), |clause| Err(Report::at(Status::NoPositiveLiteral, file.ranges[clause].start)))
 }
 
 fn search_table(tableau: Tableau, budget: u32, proof: &mut [u32], answer: &mut [u32]) -> Report {
@@ -135,7 +149,7 @@ fn search_table(tableau: Tableau, budget: u32, proof: &mut [u32], answer: &mut [
 
 fn check_table(mut tableau: Tableau, offered: &[u32], answer: &mut [u32]) -> Report {
     for (place, &word) in offered.iter().enumerate() {
-        let Some(step) = Step::decode(word) else {
+        let Some(step) = Step::decode(tableau.reading(), word) else {
             return Report::at(Status::MalformedStep, place);
         };
         match tableau.perform(step) {

@@ -21,6 +21,7 @@ pub enum Status {
     AnswerTooLong = 16,
     Circle = 20,
     RestrictedQuestion = 21,
+    NoPositiveLiteral = 22,
 }
 
 /// Numbers that the status does not name are 0.

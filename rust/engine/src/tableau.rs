@@ -1,5 +1,6 @@
 //! A tableau: its open leaves, and the steps that treat the leftmost of them.
 
+use crate::Reading;
 use crate::equations::{Equations, Mark, Node, Unequal};
 use crate::list::List;
 use crate::step::Step;
@@ -24,6 +25,7 @@ struct Leaf {
 pub struct Tableau<'a> {
     table: &'a Table,
     bound: u32,
+    reading: Reading,
     terms: Equations,
     open: List<Leaf>,
     extensions: u32,
@@ -47,10 +49,16 @@ pub struct Moment {
 }
 
 impl<'a> Tableau<'a> {
+    /// By document 01's rules.
     pub fn start(table: &'a Table, bound: u32) -> Tableau<'a> {
+        Tableau::read(table, bound, Reading::Base)
+    }
+
+    pub fn read(table: &'a Table, bound: u32, reading: Reading) -> Tableau<'a> {
         let mut tableau = Tableau {
             table,
             bound,
+            reading,
             terms: Equations::default(),
             open: List::empty(),
             extensions: 0,
@@ -63,6 +71,10 @@ impl<'a> Tableau<'a> {
 
     pub fn closed(&self) -> bool {
         self.open.split().is_none()
+    }
+
+    pub fn reading(&self) -> Reading {
+        self.reading
     }
 
     pub fn questions(&self) -> &[Vec<Rc<Goal>>] {
@@ -99,6 +111,9 @@ impl<'a> Tableau<'a> {
         if self.extensions == self.bound {
             return reductions.collect();
         }
+        if self.restarts(&leaf.goal) {
+            return reductions.chain([Step::Restart]).collect();
+        }
         reductions.chain(self.fitting_extensions(&leaf.goal)).collect()
     }
 
@@ -109,7 +124,13 @@ impl<'a> Tableau<'a> {
         match step {
             Step::Reduction { height } => self.reduce(leaf, rest, height as usize),
             Step::Extension { clause, literal } => self.extend(leaf, rest, clause as usize, literal as usize),
+            Step::Restart => self.restart(leaf, rest),
         }
+    }
+
+    /// Whether such a leaf is restarted where it is not reduced, and never extended.
+    fn restarts(&self, goal: &Goal) -> bool {
+        self.reading == Reading::Restart && !goal.negative
     }
 
     fn reduce(&mut self, leaf: &Leaf, rest: &List<Leaf>, height: usize) -> Result<(), Obstacle> {
@@ -124,7 +145,7 @@ impl<'a> Tableau<'a> {
     fn extend(&mut self, leaf: &Leaf, rest: &List<Leaf>, clause: usize, literal: usize) -> Result<(), Obstacle> {
         let entered = self.table.clauses.get(clause).and_then(|clause| clause.literals.get(literal));
         let entered = entered.ok_or(Obstacle::NotAllowed)?;
-        if self.extensions == self.bound || !leaf.goal.fits(entered) {
+        if self.extensions == self.bound || self.restarts(&leaf.goal) || !leaf.goal.fits(entered) {
             return Err(Obstacle::NotAllowed);
         }
         self.extensions += 1;
@@ -133,6 +154,18 @@ impl<'a> Tableau<'a> {
         self.open = rest.clone();
         self.hang(&goals, &leaf.branch.with(leaf.goal.clone()));
         self.close(&leaf.goal, &entered)
+    }
+
+    /// A fresh copy of the question hangs under the leaf with all its literals open.
+    fn restart(&mut self, leaf: &Leaf, rest: &List<Leaf>) -> Result<(), Obstacle> {
+        if self.extensions == self.bound || !self.restarts(&leaf.goal) {
+            return Err(Obstacle::NotAllowed);
+        }
+        self.extensions += 1;
+        let goals = self.copy(self.table.question_number());
+        self.open = rest.clone();
+        self.hang(&goals, &leaf.branch.with(leaf.goal.clone()));
+        Ok(())
     }
 
     fn close(&mut self, left: &Goal, right: &Goal) -> Result<(), Obstacle> {

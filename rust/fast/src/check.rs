@@ -5,7 +5,7 @@ use crate::memory::{Work, item};
 use crate::tableau::{Leaf, NIL, START, after, arguments, copy, hang, literal, open, parent, parent_arguments, start};
 use crate::terms::compare;
 use engine::step::Step;
-use engine::{Status, Unequal};
+use engine::{Reading, Status, Unequal};
 
 /// The first open leaf, and how many copies there are.
 #[derive(Clone, Copy)]
@@ -30,7 +30,7 @@ pub fn check(
 }
 
 fn perform(index: &Index, work: &mut Work, open: Open, bound: u32, word: u32) -> Result<Open, Status> {
-    let step = Step::decode(word).ok_or(Status::MalformedStep)?;
+    let step = Step::decode(Reading::Base, word).ok_or(Status::MalformedStep)?;
     if open.first == NIL {
         return Err(Status::StepNotAllowed);
     }
@@ -38,6 +38,7 @@ fn perform(index: &Index, work: &mut Work, open: Open, bound: u32, word: u32) ->
         Step::Reduction { height } => reduce(index, work, open, height),
         Step::Extension { .. } if open.copies > bound => Err(Status::StepNotAllowed),
         Step::Extension { clause, literal } => extend(index, work, open, clause as usize, literal as usize),
+        Step::Restart => Err(Status::MalformedStep),
     }
 }
 

@@ -11,8 +11,8 @@ mod tableau;
 mod terms;
 mod words;
 
-use calls::{Engine, Lent};
-use engine::{Desk, LARGEST_BOUND, PROOF_WORDS, Report, Status, WORK_WORDS};
+use calls::{Engine, Lent, Plain};
+use engine::{Asker, Desk, LARGEST_BOUND, PROOF_WORDS, Reading, Report, Status, WORK_WORDS};
 use index::{Index, Notes};
 use memory::Work;
 use read::{Accepted, accept};
@@ -152,6 +152,7 @@ fn write_answer(index: &Index, steps: usize, copies: u32, work: &mut Work, buffe
     }
 }
 
+/// The restart reading is not measured: the plain engine answers.
 pub struct Fast;
 
 impl Engine for Fast {
@@ -159,11 +160,17 @@ impl Engine for Fast {
         clause_range(file, number)
     }
 
-    fn search(&mut self, desk: Desk, file: &[u32], bound: u32, budget: u32, lent: Lent) -> Report {
-        search_for(desk, file, bound, budget, lent.work, lent.proof, lent.answer)
+    fn search(&mut self, asker: Asker, file: &[u32], bound: u32, budget: u32, lent: Lent) -> Report {
+        match asker.reading {
+            Reading::Base => search_for(asker.desk, file, bound, budget, lent.work, lent.proof, lent.answer),
+            Reading::Restart => Plain.search(asker, file, bound, budget, lent),
+        }
     }
 
-    fn check(&mut self, desk: Desk, file: &[u32], offered: &[u32], bound: u32, lent: Lent) -> Report {
-        check_for(desk, file, offered, bound, lent.work, lent.answer)
+    fn check(&mut self, asker: Asker, file: &[u32], offered: &[u32], bound: u32, lent: Lent) -> Report {
+        match asker.reading {
+            Reading::Base => check_for(asker.desk, file, offered, bound, lent.work, lent.answer),
+            Reading::Restart => Plain.check(asker, file, offered, bound, lent),
+        }
     }
 }

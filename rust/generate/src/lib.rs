@@ -15,7 +15,7 @@ use damage::damaged;
 use engine::file::write;
 use engine::owned::{self, Outcome};
 use engine::syntax::Table;
-use engine::{LARGEST_BOUND, Report, Status};
+use engine::{LARGEST_BOUND, Reading, Report, Status};
 use lines::{Check, Search, Spelling, lookup};
 use random::Random;
 use tables::Asked;
@@ -108,7 +108,7 @@ fn search(random: &mut Random) -> Search {
         random.pick(&[tries, tries, tries.saturating_sub(1), tries + 1, allowed, u32::MAX])
     };
     let answer = answer_room(random, outcome.answer.len());
-    let (work, proof) = (work_room(random), proof_room(random));
+    let (work, proof) = (work_room(random), proof_room(Reading::Base, random));
     let bound = if random.once_in(100) { random.pick(&[33, 63, 64, u32::MAX]) } else { bound };
     Search { bound, budget, work, proof, answer, file }
 }
@@ -159,6 +159,7 @@ fn work_room(random: &mut Random) -> usize {
     if random.once_in(30) { random.pick(&[0, 16_383, 16_385, 20_000]) } else { 16_384 }
 }
 
-fn proof_room(random: &mut Random) -> usize {
-    if random.once_in(30) { random.pick(&[0, 198, 200, 300]) } else { 199 }
+fn proof_room(reading: Reading, random: &mut Random) -> usize {
+    let needed = reading.proof_words();
+    if random.once_in(30) { random.pick(&[0, 199, needed - 1, needed + 1, 300]) } else { needed }
 }

@@ -1,7 +1,7 @@
 //! Requests as lines of the protocol.
 
 use crate::random::Random;
-use engine::Desk;
+use engine::{Asker, Desk, Reading};
 
 /// How words are spelt: 1 to 8 digits of either case are permitted.
 #[derive(Clone, Copy)]
@@ -58,12 +58,12 @@ impl Search {
     }
 
     pub fn line(&self, spelling: Spelling) -> String {
-        self.line_for(Desk::Collections, spelling)
+        self.line_for(Asker::BASE, spelling)
     }
 
-    pub fn line_for(&self, desk: Desk, spelling: Spelling) -> String {
+    pub fn line_for(&self, asker: impl Into<Asker>, spelling: Spelling) -> String {
         let Search { bound, budget, work, proof, answer, file } = self;
-        format!("{}search {bound} {budget} {work} {proof} {answer} / {}", prefix(desk), spelling.words(file))
+        format!("{}search {bound} {budget} {work} {proof} {answer} / {}", prefix(asker.into()), spelling.words(file))
     }
 }
 
@@ -73,20 +73,22 @@ impl Check {
     }
 
     pub fn line(&self, spelling: Spelling) -> String {
-        self.line_for(Desk::Collections, spelling)
+        self.line_for(Asker::BASE, spelling)
     }
 
-    pub fn line_for(&self, desk: Desk, spelling: Spelling) -> String {
+    pub fn line_for(&self, asker: impl Into<Asker>, spelling: Spelling) -> String {
         let Check { bound, work, answer, offered, file } = self;
         let [offered, file] = [offered, file].map(|words| spelling.words(words));
-        format!("{}check {bound} {work} {answer} / {offered} / {file}", prefix(desk))
+        format!("{}check {bound} {work} {answer} / {offered} / {file}", prefix(asker.into()))
     }
 }
 
-fn prefix(desk: Desk) -> &'static str {
-    match desk {
-        Desk::Collections => "",
-        Desk::Education => "edu-",
+fn prefix(asker: Asker) -> &'static str {
+    match (asker.reading, asker.desk) {
+        (Reading::Base, Desk::Collections) => "",
+        (Reading::Base, Desk::Education) => "edu-",
+        (Reading::Restart, Desk::Collections) => "restart-",
+        (Reading::Restart, Desk::Education) => "restart-edu-",
     }
 }
 

@@ -3,6 +3,7 @@
 use crate::lines::{Search, Spelling};
 use crate::random::Random;
 use crate::tables::{self, Asked};
+use engine::Reading;
 use engine::file::write;
 use engine::syntax::Table;
 
@@ -15,9 +16,17 @@ pub fn pairs(seed: u64, count: usize) -> impl Iterator<Item = String> {
 }
 
 fn pair(random: &mut Random) -> [String; 2] {
-    let Asked { table, bound } = if random.once_in(2) { tables::any(random) } else { tables::small(random) };
+    let (reading, family): (Reading, fn(&mut Random) -> Asked) = match random.below(3) {
+        0 => (Reading::Base, tables::any),
+        1 => (Reading::Base, tables::small),
+        _ => (Reading::Restart, tables::with_conclusions),
+    };
+    let Asked { table, bound } = family(random);
     let other = reordered(random, &table);
-    [table, other].map(|table| Search::ordinary(&write(&table), bound, ALLOWED).line(Spelling::Full))
+    [table, other].map(|table| {
+        let search = Search::ordinary(&write(&table), bound, ALLOWED);
+        Search { proof: reading.proof_words(), ..search }.line_for(reading, Spelling::Full)
+    })
 }
 
 pub fn reordered(random: &mut Random, table: &Table) -> Table {

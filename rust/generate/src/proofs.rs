@@ -1,13 +1,18 @@
 //! Proofs to offer to the checker.
 
 use crate::random::Random;
+use engine::Reading;
 use engine::step::Step;
 use engine::syntax::Table;
 use engine::tableau::Tableau;
 
 /// A proof made by taking any step that works, whatever the search would take. It may stop with leaves open.
 pub fn wandering(random: &mut Random, table: &Table, bound: u32) -> Vec<u32> {
-    let mut tableau = Tableau::start(table, bound);
+    wandering_by(Reading::Base, random, table, bound)
+}
+
+pub fn wandering_by(reading: Reading, random: &mut Random, table: &Table, bound: u32) -> Vec<u32> {
+    let mut tableau = Tableau::read(table, bound, reading);
     let mut steps = Vec::new();
     while let Some(step) = working_step(random, &mut tableau) {
         steps.push(step.encode());
@@ -17,7 +22,11 @@ pub fn wandering(random: &mut Random, table: &Table, bound: u32) -> Vec<u32> {
 
 /// Steps that work, then one that fits but does not unify, if one is met.
 pub fn failing(random: &mut Random, table: &Table, bound: u32) -> Vec<u32> {
-    let mut tableau = Tableau::start(table, bound);
+    failing_by(Reading::Base, random, table, bound)
+}
+
+pub fn failing_by(reading: Reading, random: &mut Random, table: &Table, bound: u32) -> Vec<u32> {
+    let mut tableau = Tableau::read(table, bound, reading);
     let mut steps = Vec::new();
     loop {
         let failing = tableau.candidates().into_iter().find(|&step| !works(&mut tableau, step));

@@ -7,7 +7,7 @@ use crate::{answer_room, proof_room, proofs, work_room};
 use engine::file::{clause_words, write};
 use engine::owned;
 use engine::syntax::{Clause, Table};
-use engine::{Desk, Status};
+use engine::{Asker, Desk, Reading, Status};
 
 const ALLOWED: u32 = 1_000;
 const MOST_CLAUSES: usize = 512;
@@ -20,49 +20,58 @@ pub fn pairs(seed: u64, count: usize) -> impl Iterator<Item = String> {
 }
 
 fn pair(random: &mut Random) -> [String; 2] {
-    let Asked { table, bound } = if random.once_in(2) { tables::any(random) } else { tables::small(random) };
+    let (reading, family): (Reading, fn(&mut Random) -> Asked) = match random.below(3) {
+        0 => (Reading::Base, tables::any),
+        1 => (Reading::Base, tables::small),
+        _ => (Reading::Restart, tables::with_conclusions),
+    };
+    let Asked { table, bound } = family(random);
     let seen = table.unrestricted();
-    let files = [hiding(random, &seen), hiding(random, &seen)].map(|table| write(&table));
+    let files = [hiding(reading, random, &seen), hiding(reading, random, &seen)].map(|table| write(&table));
+    let asker = Asker { desk: Desk::Education, reading };
     if random.once_in(2) {
-        let search = search(random, &seen, bound);
-        files.map(|file| Search { file, ..search.clone() }.line_for(Desk::Education, Spelling::Full))
+        let search = search(reading, random, &seen, bound);
+        files.map(|file| Search { file, ..search.clone() }.line_for(asker, Spelling::Full))
     } else {
-        let check = check(random, &seen, bound);
-        files.map(|file| Check { file, ..check.clone() }.line_for(Desk::Education, Spelling::Full))
+        let check = check(reading, random, &seen, bound);
+        files.map(|file| Check { file, ..check.clone() }.line_for(asker, Spelling::Full))
     }
 }
 
 /// A search of what education sees, its budget and its answer buffer at and beside what is needed.
-pub fn search(random: &mut Random, seen: &Table, bound: u32) -> Search {
+pub fn search(reading: Reading, random: &mut Random, seen: &Table, bound: u32) -> Search {
     let file = write(seen);
-    let outcome = owned::search(&file, bound, ALLOWED);
+    let outcome = owned::search_for(reading, &file, bound, ALLOWED);
     let tries = outcome.report.tries;
     let budget = match outcome.report.status {
         Status::RanOut => ALLOWED,
         _ => random.pick(&[tries, tries, tries.saturating_sub(1), tries + 1, ALLOWED]),
     };
     let answer = answer_room(random, outcome.answer.len());
-    Search { bound, budget, work: work_room(random), proof: proof_room(random), answer, file }
+    Search { bound, budget, work: work_room(random), proof: proof_room(reading, random), answer, file }
 }
 
 /// A proof over what education sees, or something like one.
-pub fn check(random: &mut Random, seen: &Table, bound: u32) -> Check {
+pub fn check(reading: Reading, random: &mut Random, seen: &Table, bound: u32) -> Check {
     let file = write(seen);
-    let found = owned::search(&file, bound, ALLOWED).proof;
+    let found = owned::search_for(reading, &file, bound, ALLOWED).proof;
     let wander = found.is_empty() || random.once_in(3);
-    let proof = if wander { proofs::wandering(random, seen, bound) } else { found };
+    let proof = if wander { proofs::wandering_by(reading, random, seen, bound) } else { found };
     let offered = if random.once_in(2) { proof } else { proofs::altered(random, &proof) };
-    let needed = owned::check(&file, &offered, bound).answer.len();
+    let needed = owned::check_for(reading, &file, &offered, bound).answer.len();
     Check { bound, work: work_room(random), answer: answer_room(random, needed), offered, file }
 }
 
-/// The table with restricted clauses put in before the question, as far as a file has room.
-pub fn hiding(random: &mut Random, seen: &Table) -> Table {
+/// The table with restricted clauses put in before the question, as far as a file has room and the reading takes them.
+pub fn hiding(reading: Reading, random: &mut Random, seen: &Table) -> Table {
     let mut table = seen.clone();
     let count = random.pick(&[0, 1, 1, 2, 3, 5, 9, MOST_CLAUSES]);
     let mut words = table.clauses.iter().map(|clause| clause_words(clause).len()).sum::<usize>();
     for _ in 0..count {
-        let hidden = Clause { restricted: true, ..secret(random, &table) };
+        let mut hidden = Clause { restricted: true, ..secret(random, &table) };
+        if reading == Reading::Restart {
+            tables::conclude(random, &mut hidden);
+        }
         words += clause_words(&hidden).len();
         if table.clauses.len() == MOST_CLAUSES || words > MOST_WORDS {
             break;

@@ -38,6 +38,23 @@ pub fn any(random: &mut Random) -> Asked {
     asked
 }
 
+/// A table in which every clause but the question has a positive literal, so that the restart reading takes it.
+pub fn with_conclusions(random: &mut Random) -> Asked {
+    let family = random.pick(&[any, any, small, contradictory, alternatives]);
+    let mut asked = family(random);
+    let question = asked.table.question_number();
+    asked.table.clauses[..question].iter_mut().for_each(|clause| conclude(random, clause));
+    asked
+}
+
+/// Turns a literal where all are negative.
+pub fn conclude(random: &mut Random, clause: &mut Clause) {
+    if clause.literals.iter().all(|literal| literal.negative) {
+        let place = random.below(clause.literals.len());
+        clause.literals[place].negative = false;
+    }
+}
+
 /// Restricts some of the clauses before the question.
 pub fn mark(random: &mut Random, table: &mut Table) {
     let question = table.question_number();

@@ -1,12 +1,13 @@
 //! Every answer is true in every interpretation over one and two elements where all clauses but the question hold.
 
+use engine::Reading;
 use engine::file::write;
-use engine::owned::{check, search};
+use engine::owned::{check_for, search_for};
 use engine::syntax::{Clause, Literal, Table, Term};
 use engine::word::{self, Symbol, Word};
-use generate::proofs::wandering;
+use generate::proofs::wandering_by;
 use generate::random::Random;
-use generate::tables::{Asked, small};
+use generate::tables::{Asked, conclude, small};
 use std::collections::BTreeMap;
 
 /// Disjuncts, each a list of atoms.
@@ -202,19 +203,34 @@ impl Count {
     }
 }
 
-#[test]
-fn answers_are_true() {
+fn answers_are_true(reading: Reading) -> Count {
     let mut random = Random::new(36);
     let mut count = Count::default();
     for _ in 0..3_000 {
-        let Asked { table, bound } = small(&mut random);
+        let Asked { mut table, bound } = small(&mut random);
+        if reading == Reading::Restart {
+            let question = table.question_number();
+            table.clauses[..question].iter_mut().for_each(|clause| conclude(&mut random, clause));
+        }
         let file = write(&table);
-        count.examine(&table, &search(&file, bound, 300).answer);
-        let offered = wandering(&mut random, &table, bound);
-        count.examine(&table, &check(&file, &offered, bound).answer);
+        count.examine(&table, &search_for(reading, &file, bound, 300).answer);
+        let offered = wandering_by(reading, &mut random, &table, bound);
+        count.examine(&table, &check_for(reading, &file, &offered, bound).answer);
     }
     println!("{} answers in {} interpretations", count.answers, count.models);
     println!("{} indefinite, {} of them false without the last disjunct", count.indefinite, count.needed_disjuncts);
     assert!(count.answers > 500 && count.models > 10_000);
+    count
+}
+
+#[test]
+fn answers_of_the_base_are_true() {
+    let count = answers_are_true(Reading::Base);
+    assert!(count.indefinite > 50 && count.needed_disjuncts > 20);
+}
+
+#[test]
+fn answers_with_restarts_are_true() {
+    let count = answers_are_true(Reading::Restart);
     assert!(count.indefinite > 50 && count.needed_disjuncts > 20);
 }

@@ -4,7 +4,7 @@ use crate::tptp::writer::{TextWritten, line};
 use engine::file;
 use engine::step::Step;
 use engine::syntax::Table;
-use engine::{Report, Status};
+use engine::{Reading, Report, Status};
 use std::collections::BTreeMap;
 
 /// The answer plays no part: none is written, so the checker is lent no room for one.
@@ -25,7 +25,7 @@ fn lines(table: &Table, proof: &[u32]) -> String {
 fn copies(table: &Table, proof: &[u32]) -> BTreeMap<usize, usize> {
     let mut copies = BTreeMap::from([(table.question_number(), 1)]);
     for &word in proof {
-        if let Some(Step::Extension { clause, .. }) = Step::decode(word) {
+        if let Some(Step::Extension { clause, .. }) = Step::decode(Reading::Base, word) {
             *copies.entry(clause as usize).or_insert(0) += 1;
         }
     }

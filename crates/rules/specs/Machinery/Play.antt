@@ -1,15 +1,16 @@
 -- Machinery: steps played one by one with the bindings made so far, the checker and the search as programs. No demand is stated by how
 -- they go about it; proofs/Demands.antt shows that they come to the verdicts of specs/Verdict.antt.
 use lib.ListN.{length}
+use mathlib.Core.Bool.{Bool, true, false, cond}
 use mathlib.Core.List.{List, [], _∷_}
 use mathlib.Core.Option.{Option, none, some}
 use Prim.Native.Nat.{ℕ, zero, suc, pred, _+_, _*_, _-_, max}
 use Rattle.words.specs.declared.Step.{Step}
-use Rattle.words.specs.declared.Step.the-variants.{Reduction, Extension, Malformed}
+use Rattle.words.specs.declared.Step.the-variants.{Reduction, Extension, Restart, Malformed}
 use Rattle.table.specs.Syntax.{Clause, Table, allClauses}
 use Rattle.rules.specs.Substitution.{Pair}
 use Rattle.rules.specs.Comparison.{a-clash, a-circle}
-use Rattle.rules.specs.Setting.{Setting}
+use Rattle.rules.specs.Setting.{restarting, Setting}
 use Rattle.rules.specs.Machinery.Unify.{Bindings, solution, Unified, made, clash, circle, unify}
 use Rattle.rules.specs.Tableau.{Leaf, Tableau, start, stepped}
 use Rattle.rules.specs.Order.{allClosed, candidates}
@@ -40,12 +41,20 @@ unfoldable pub newest : Bindings → Tableau → List Pair → Performed
 newest bs y [] = not-possible
 newest bs y (p ∷ ps) = boundBy y (unify bs (p .left) (p .right))
 
-unfoldable pub performed : Bindings → Option Tableau → Performed
-performed bs none = not-possible
-performed bs (some y) = newest bs y (y .pairs)
+-- a restart closes no pair
+abbrev pub closesPair : Step → Bool
+closesPair (Reduction height) = true
+closesPair (Extension clause literal) = true
+closesPair Restart = false
+closesPair Malformed = true
+
+unfoldable pub performed : Bindings → Option Tableau → Bool → Performed
+performed bs none closes = not-possible
+performed bs (some y) true = newest bs y (y .pairs)
+performed bs (some y) false = goes-on (record { tableau = y; bindings = bs })
 
 unfoldable pub perform : Setting → Play → Step → Performed
-perform S p s = performed (p .bindings) (stepped S (p .tableau) s)
+perform S p s = performed (p .bindings) (stepped S (p .tableau) s) (closesPair s)
 
 -- the checker
 pub data Checking : Type 0 where
@@ -59,6 +68,7 @@ atEnd p place (leaf ∷ rest) = stopped leaves-open place
 unfoldable pub refusal : Step → Refusal
 refusal (Reduction height) = not-allowed
 refusal (Extension clause literal) = not-allowed
+refusal Restart = not-allowed
 refusal Malformed = malformed
 
 unfoldable pub onwards : Performed → Step → ℕ → (Play → Checking) → Checking
@@ -100,9 +110,15 @@ unfoldable pub mostAdded : List Clause → ℕ
 mostAdded [] = zero
 mostAdded (c ∷ cs) = max (pred (length (c .literals))) (mostAdded cs)
 
+-- and the most that a step can, where a restart opens all literals of the question
+unfoldable pub mostMore : Setting → ℕ
+mostMore S =
+    let added : ℕ = mostAdded (allClauses (S .table)) in
+    cond (restarting (S .profile)) (max (length (S .table .question .literals)) added) added
+
 -- the most steps that can be taken from a tableau
 unfoldable pub stepsLeft : Setting → Tableau → ℕ
-stepsLeft S x = length (x .leaves) + mostAdded (allClauses (S .table)) * (S .bound - x .extensions)
+stepsLeft S x = length (x .leaves) + mostMore S * (S .bound - x .extensions)
 
 unfoldable pub reported : ℕ → Result Step → SearchVerdict
 reported budget (way steps left) = finds steps (budget - left)

@@ -7,23 +7,23 @@ use crate::random::Random;
 use crate::restricted::{check, hiding, search};
 use crate::tables::{self, Asked};
 use engine::file::write;
-use engine::{Desk, owned};
+use engine::{Desk, Reading, owned};
 
 const ALLOWED: u32 = 300;
 
 pub fn request(random: &mut Random, spelling: Spelling) -> String {
     let Asked { table, bound } = tables::any(random);
     let seen = table.unrestricted();
-    let hiding = if random.once_in(2) { hiding(random, &seen) } else { table };
+    let hiding = if random.once_in(2) { hiding(Reading::Base, random, &seen) } else { table };
     let file = write(&hiding);
     let file = if random.once_in(15) { damaged(random, &file) } else { file };
     // Of the other desk too: it sees all, so its budget is what is allowed.
     let desk = if random.once_in(8) { Desk::Collections } else { Desk::Education };
     if random.once_in(2) {
-        let search = Search { file, ..search(random, &seen, bound) };
+        let search = Search { file, ..search(Reading::Base, random, &seen, bound) };
         return Search { budget: search.budget.min(ALLOWED), ..search }.line_for(desk, spelling);
     }
-    let mut check = Check { file, ..check(random, &seen, bound) };
+    let mut check = Check { file, ..check(Reading::Base, random, &seen, bound) };
     if random.once_in(3) {
         check.offered = owned::search(&check.file, bound, ALLOWED).proof;
     }

@@ -6,6 +6,7 @@ mod education;
 mod listing;
 mod out;
 mod repeats;
+mod restart;
 mod season;
 mod slim;
 mod smallest;
@@ -24,6 +25,9 @@ const KINDS: &[Kind] = &[
     listing::request,
     out::request,
     repeats::request,
+    restart::request,
+    restart::request,
+    restart::request,
     season::request,
     slim::request,
     smallest::request,
@@ -42,6 +46,7 @@ pub fn borders() -> Vec<String> {
         listing::borders(),
         out::borders(),
         repeats::borders(),
+        restart::borders(),
         season::borders(),
         slim::borders(),
         smallest::borders(),

@@ -7,10 +7,10 @@ use crate::lines::Spelling;
 use crate::random::Random;
 use crate::tables::{self, Asked};
 use crate::{answer_room, proof_room, work_room};
-use engine::LARGEST_BOUND;
 use engine::file::{clause_words, write};
 use engine::owned;
 use engine::syntax::{Clause, Table};
+use engine::{LARGEST_BOUND, Reading};
 
 const ALLOWED: u32 = 300;
 
@@ -61,7 +61,7 @@ pub fn request(random: &mut Random, spelling: Spelling) -> String {
         file = damaged(random, &file);
     }
     list.truncate(16_100);
-    let (work, proof, answer) = (work_room(random), proof_room(random), answer_room(random, longest));
+    let (work, proof, answer) = (work_room(random), proof_room(Reading::Base, random), answer_room(random, longest));
     Season { work, proof, answer, entries, list, table: file }.line(spelling)
 }
 

@@ -5,7 +5,7 @@ use crate::random::Random;
 use crate::{answer_room, proof_room, tables, work_room};
 use engine::file::write;
 use engine::owned::{self, Outcome};
-use engine::{LARGEST_BOUND, Report, Status};
+use engine::{LARGEST_BOUND, Reading, Report, Status};
 
 fn line(search: &Search, spelling: Spelling) -> String {
     search.line(spelling).replacen("search", "smallest", 1)
@@ -22,7 +22,7 @@ pub fn request(random: &mut Random, spelling: Spelling) -> String {
         bound = random.pick(&[33, 34, u32::MAX]);
     }
     let budget = random.pick(&[needed, needed, needed.saturating_sub(1), needed + 1, needed / 2]);
-    let (work, proof) = (work_room(random), proof_room(random));
+    let (work, proof) = (work_room(random), proof_room(Reading::Base, random));
     let answer = answer_room(random, words);
     line(&Search { bound, budget, work, proof, answer, file }, spelling)
 }

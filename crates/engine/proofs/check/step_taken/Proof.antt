@@ -1,5 +1,6 @@
 use borrow.Author.Needs.{needs}
-use Rattle.engine.proofs.CheckSteps.{malformed-judged}
+use mathlib.Core.Path.{sym, _∙_}
+use Rattle.engine.proofs.CheckSteps.{read-is, malformed-judged, extend-unlet}
 use Rattle.engine.proofs.check.step_taken.Statement.{statement}
 use Rattle.engine.proofs.check.step_taken.Tie as tie
 
@@ -9,12 +10,19 @@ step-taken-spec =
     (tie.spec
     (λ c κs. search needs)
     (λ c. search needs)
-    (λ c κs. (c .before .before .before .before .before .before .before .pre .0, cc))
+    (λ c κs. c .before .before .before .before .before .before .before .pre .0)
     (λ c. search needs)
-    (λ c κs. (c .before .before .before .before .before .before .before .pre .0, c .before .before .before .before .before .before .before .pre .1, c .before .before .before .before .before .before .before .pre .2, cc, c .before .before .before .before .before .before .before .pre .3))
+    (λ c κs. c .before .before .before .before .before .before .before .pre .0)
+    (λ c. search needs)
+    (λ c. extend-unlet (c .before .before .before .before .before .before .before .before .before .pre .0) (c .before .before .before .before .before .before .before .before .before .args .conditions) (c .before .before .before .before .before .before .before .before .before .args .word) (sym (read-is (c .before .before .before .before .before .before .before .before .before .args .conditions .restarts) (c .before .before .before .before .before .before .before .before .before .args .word)) ∙ sym (c .before .before .before .before .before .before .decode-for .ensures) ∙ c .before .before .before .before .step2 .given .1) (sym (c .before .restarts-leaf .ensures) ∙ c .if1 .taken))
+    (λ c κs. (c .before .before .before .before .before .before .before .before .before .before .pre .0, c .before .before .before .before .before .before .before .before .before .before .pre .1, c .before .before .before .before .before .before .before .before .before .before .pre .2, sym (read-is (c .before .before .before .before .before .before .before .before .before .before .args .conditions .restarts) (c .before .before .before .before .before .before .before .before .before .before .args .word)) ∙ sym (c .before .before .before .before .before .before .before .decode-for .ensures) ∙ c .before .before .before .before .before .step2 .given .1, c .before .before .before .before .before .before .before .before .before .before .pre .3, sym (c .before .before .restarts-leaf .ensures) ∙ c .before .if1 .left))
+    (λ c. search needs)
+    (λ c κs. (c .before .before .before .before .before .before .pre .0, c .before .before .before .before .before .before .pre .1, c .before .before .before .before .before .before .pre .2, c .before .before .before .before .before .before .pre .4, sym (read-is (c .before .before .before .before .before .before .args .conditions .restarts) (c .before .before .before .before .before .before .args .word)) ∙ sym (c .before .before .before .decode-for .ensures) ∙ c .before .enum-told .given .1))
     (λ c. search needs)
     (λ c. search needs)
-    (λ c. c .before .before .reduction .ensures _)
+    (λ c. c .before .before .reduction .ensures _ (sym (read-is (c .before .before .before .before .before .before .before .before .before .before .args .conditions .restarts) (c .before .before .before .before .before .before .before .before .before .before .args .word)) ∙ sym (c .before .before .before .before .before .before .before .decode-for .ensures) ∙ c .before .before .before .before .before .step .given .1))
     (λ c. search needs)
+    (λ c. c .before .before .extension .ensures)
     (λ c. search needs)
-    (λ c. malformed-judged _ _ (cc)))
+    (λ c. c .before .before .restart .ensures)
+    (λ c. malformed-judged (c .before .before .before .before .before .args .conditions) (c .before .before .before .before .before .args .word) (sym (c .enum-told2 .given .1) ∙ c .before .before .decode-for .ensures ∙ read-is (c .before .before .before .before .before .args .conditions .restarts) (c .before .before .before .before .before .args .word))))

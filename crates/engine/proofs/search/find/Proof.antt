@@ -14,6 +14,6 @@ find-spec =
     (λ c. omega (arith, file-most (c .before .before .args .file .now) (c .before .before .pre .1) (c .before .before .pre .2)))
     (λ c κs. (c .before .before .before .pre .0, omega arith, omega (arith, file-most (c .before .before .before .args .file .now) (c .before .before .before .pre .1) (c .before .before .before .pre .2)), file-literals (c .before .before .before .args .file .now) (c .before .before .before .pre .1) (c .before .before .before .pre .2)))
     (λ c κs. (c .before .before .before .prepare .kept .1 .0 ∙ c .before .before .before .before .before .before .before .pre .0, question-clause (c .before .before .before .before .before .before .before .args .file .now) (c .before .before .before .before .before .before .before .pre .1) (c .before .before .before .before .before .before .before .pre .2)))
-    (λ c κs. find-treats (c .before .before .before .before .before .before .before .before .before .before .before .args .file .now) (c .before .before .before .before .before .before .before .before .before .before .before .pre .1) (c .before .before .before .before .before .before .before .before .before .before .before .pre .2) (λ i. c .before .before .before .before .before .before .before .before .before .before .shared-slice-known .given i .fits) (c .before .before .before .before .before .before .before .before .before .before .before .pre .3) (c .before .before .before .begin .ensures .0) (c .before .before .before .before .before .before .before .prepare .ensures) (c .before .before .before .begin .ensures .1))
+    (λ c κs. find-treats (c .before .before .before .before .before .before .before .before .before .before .before .args .file .now) (c .before .before .before .before .before .before .before .before .before .before .before .pre .1) (c .before .before .before .before .before .before .before .before .before .before .before .pre .2) (λ i. c .before .before .before .before .before .before .before .before .before .before .shared-slice-known .given i .fits) (c .before .before .before .before .before .before .before .before .before .before .before .args .conditions) (c .before .before .before .before .before .before .before .before .before .before .before .pre .3) (c .before .before .before .begin .ensures .0) (c .before .before .before .before .before .before .before .prepare .ensures) (c .before .before .before .begin .ensures .1))
     (λ c. search needs)
-    (λ c. find-ends (c .before .before .before .before .before .before .before .before .before .before .before .before .before .before .args .file .now) (c .before .before .before .before .before .before .before .before .before .before .before .before .before .before .pre .1) (c .before .before .before .before .before .before .before .before .before .before .before .before .before .before .pre .2) (λ i. c .before .before .before .before .before .before .before .before .before .before .before .before .before .shared-slice-known .given i .fits) (c .before .before .before .before .before .before .before .before .before .before .before .before .before .before .pre .3) (c .before .before .before .before .before .before .begin .ensures .0) (c .before .before .treat .ensures)))
+    (λ c. find-ends (c .before .before .before .before .before .before .before .before .before .before .before .before .before .before .args .file .now) (c .before .before .before .before .before .before .before .before .before .before .before .before .before .before .pre .1) (c .before .before .before .before .before .before .before .before .before .before .before .before .before .before .pre .2) (λ i. c .before .before .before .before .before .before .before .before .before .before .before .before .before .shared-slice-known .given i .fits) (c .before .before .before .before .before .before .before .before .before .before .before .before .before .before .args .conditions) (c .before .before .before .before .before .before .before .before .before .before .before .before .before .before .pre .3) (c .before .before .before .before .before .before .begin .ensures .0) (c .before .before .treat .ensures)))

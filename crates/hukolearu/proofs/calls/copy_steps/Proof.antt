@@ -18,7 +18,7 @@ Inv-loop work proof₀ count n i₀ proof i = (i ≤ n) × (proof ≡ paste proo
 abbrev μ-loop : tie.MeasureT-loop
 μ-loop work proof₀ count n i₀ proof i = n - i
 
-module _ (m d : List ℕ) (n i : ℕ) {p : List ℕ} (room : length m ≡ 16384) (few : n ≤ 199) (enough : 199 ≤ length d) (e : p ≡ paste d 0 (drop 1984 m) i) where
+module _ (m d : List ℕ) (n i : ℕ) {p : List ℕ} (room : length m ≡ 16384) (few : n ≤ 231) (enough : n ≤ length d) (e : p ≡ paste d 0 (drop 1984 m) i) where
   copied-length : i ≤ n → length p ≡ length d
   copied-length h = ap length e ∙ length-paste d 0 (drop 1984 m) i (omega arith) (omega (arith, length-drop {A = ℕ} 1984 m))
 

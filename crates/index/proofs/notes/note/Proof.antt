@@ -3,7 +3,8 @@ use mathlib.Core.Path.{sym, _∙_}
 use native.Mathlib.Omega.{arith}
 use Prim.Native.Nat.{_-_}
 use lib.ListN.{length-set}
-use Rattle.index.proofs.Recorded.{Noting, noting-begin, noting-reads, noting-small, noting-less, noting-other, noting-literal, noting-count, noting-on, noting-end}
+use Rattle.index.proofs.Recorded.{Noting, noting-begin, noting-reads, noting-small, noting-less, noting-literal, noting-count, noting-on, noting-end}
+use Rattle.index.proofs.Plain.{passed-asked, passed-less, passed-on}
 use Rattle.index.proofs.notes.note.Statement.{statement}
 use Rattle.index.proofs.notes.note.Tie as tie
 
@@ -26,8 +27,9 @@ note-spec =
     (λ c. noting-reads (c .before .before .before .before .loop .inv) (c .before .before .if1 .taken) (c .before .wide .ensures))
     (λ c κs. noting-small (c .before .before .before .before .loop .inv) (c .before .before .if1 .taken))
     (λ c κs. search needs)
-    (λ c. noting-less (c .before .before .before .before .before .before .before .loop .inv) (c .before .before .before .before .before .if1 .taken) (c .before .before .before .before .wide .ensures) (c .before .before .past .ensures))
-    (λ c. noting-other (c .before .before .before .before .before .before .before .loop .inv) (c .before .before .before .before .before .if1 .taken) (c .before .before .before .before .wide .ensures) (c .before .kind .ensures) (c .if2 .taken) (c .before .before .past .ensures))
+    (λ c κs. passed-asked (c .before .before .before .before .before .before .before .loop .inv) (c .before .before .before .before .before .if1 .taken) (c .before .before .before .before .wide .ensures) (c .before .before .past .ensures))
+    (λ c. passed-less (c .before .before .before .before .before .before .before .before .loop .inv) (c .before .before .before .before .before .before .if1 .taken) (c .before .before .before .before .before .wide .ensures) (c .before .before .before .past .ensures) (c .past-plain .ensures))
+    (λ c. passed-on (c .before .before .before .before .before .before .before .before .loop .inv) (c .before .before .before .before .before .before .if1 .taken) (c .before .before .before .before .before .wide .ensures) (c .before .before .before .past .ensures) (c .past-plain .ensures) (c .before .before .kind .ensures) (c .before .if2 .taken))
     (λ c κs. noting-literal (c .before .before .before .before .before .before .before .before .loop .inv) (c .before .before .before .before .before .before .if1 .taken) (c .before .before .before .before .before .wide .ensures) (c .before .before .kind .ensures) (c .before .if2 .left))
     (λ c. let low = noting-count (c .before .before .before .before .before .before .before .before .before .before .before .loop .inv) (c .before .before .before .before .before .before .before .before .before .if1 .taken) (c .before .before .before .before .before .before .before .before .wide .ensures) (c .before .before .before .before .before .kind .ensures) (c .before .before .before .before .if2 .left) in search needs)
     (λ c. noting-less (c .before .before .before .before .before .before .before .before .before .before .before .loop .inv) (c .before .before .before .before .before .before .before .before .before .if1 .taken) (c .before .before .before .before .before .before .before .before .wide .ensures) (c .before .before .before .before .before .before .past .ensures))

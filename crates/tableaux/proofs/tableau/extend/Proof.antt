@@ -1,5 +1,5 @@
 use native.Mathlib.Omega.{arith}
-use Rattle.tableaux.proofs.Extending.{extend-small, extend-meets, extend-stopped, others-inside, others-counted, extend-went-on, not-made}
+use Rattle.tableaux.proofs.Extending.{extend-small, extend-meets, extend-stopped, extend-some, extend-under, extend-went-on, not-made}
 use borrow.Author.Needs.{needs}
 use Rattle.tableaux.proofs.tableau.extend.Statement.{statement}
 use Rattle.tableaux.proofs.tableau.extend.Tie as tie
@@ -16,6 +16,8 @@ extend-spec =
     (λ c. search needs)
     (λ c. search needs)
     (λ c. extend-stopped (c .before .before .before .before .before .before .before .before .before .before .before .before .before .pre) (c .before .before .before .before .before .before .before .before .before .before .before .before .before .args .step) (c .before .before .before .before .before .before .before .before .before .open-copy .ensures) (c .before .before .before .before .before .literal-of .ensures) (c .before .before .before .meet-atoms .ensures) (not-made _ (c .match .keys2)))
-    (λ c κs. (others-inside (c .before .before .before .before .before .before .before .before .before .before .before .before .before .before .before .pre) (c .before .before .before .before .before .before .before .before .before .before .before .before .before .before .before .args .step) (c .before .before .before .before .before .before .before .before .before .before .before .open-copy .ensures) (c .before .before .before .before .before .before .before .literal-of .ensures) (c .before .before .before .before .before .meet-atoms .ensures), others-counted (c .before .before .before .before .before .before .before .before .before .before .before .before .before .before .before .pre) (c .before .before .before .before .before .before .before .before .before .before .before .before .before .before .before .args .step) (c .before .before .before .before .before .before .before .before .before .before .before .open-copy .ensures) (c .before .before .before .before .before .before .before .literal-of .ensures) (c .before .before .before .before .before .meet-atoms .ensures)))
+    (λ c κs. search needs)
+    (λ c. extend-some (c .before .before .before .before .before .before .before .before .before .before .before .before .before .before .before .pre) (c .before .before .before .before .before .before .before .before .before .before .before .before .before .before .before .args .step) (c .before .before .before .before .before .before .before .before .before .before .before .open-copy .ensures) (c .before .before .before .before .before .before .before .literal-of .ensures) (c .before .before .before .before .before .meet-atoms .ensures) (c .literals-at .ensures))
+    (λ c κs. extend-under (c .before .before .before .before .before .before .before .before .before .before .before .before .before .before .before .before .pre) (c .before .before .before .before .before .before .before .before .before .before .before .before .before .before .before .before .args .step) (c .before .before .before .before .before .before .before .before .before .before .before .before .open-copy .ensures) (c .before .before .before .before .before .before .before .before .literal-of .ensures) (c .before .before .before .before .before .before .meet-atoms .ensures) (c .before .literals-at .ensures))
     (λ c. search needs)
-    (λ c. extend-went-on (c .before .before .before .before .before .before .before .before .before .before .before .before .before .before .before .before .before .before .pre) (c .before .before .before .before .before .before .before .before .before .before .before .before .before .before .before .before .before .before .args .step) (c .before .before .before .before .before .before .before .before .before .before .before .before .before .before .open-copy .ensures) (c .before .before .before .before .before .before .before .before .before .before .literal-of .ensures) (c .before .before .before .before .before .before .before .before .meet-atoms .ensures) (c .before .before .hang-others .ensures)))
+    (λ c. extend-went-on (c .before .before .before .before .before .before .before .before .before .before .before .before .before .before .before .before .before .before .before .pre) (c .before .before .before .before .before .before .before .before .before .before .before .before .before .before .before .before .before .before .before .args .step) (c .before .before .before .before .before .before .before .before .before .before .before .before .before .before .before .open-copy .ensures) (c .before .before .before .before .before .before .before .before .before .before .before .literal-of .ensures) (c .before .before .before .before .before .before .before .before .before .meet-atoms .ensures) (c .before .before .hang-under .ensures)))

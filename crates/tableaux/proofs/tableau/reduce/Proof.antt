@@ -1,4 +1,4 @@
-use Rattle.tableaux.proofs.Reducing.{reduce-meets, reduced-as}
+use Rattle.tableaux.proofs.Reducing.{reduce-small, reduce-meets, reduced-as}
 use borrow.Author.Needs.{needs}
 use Rattle.tableaux.proofs.tableau.reduce.Statement.{statement}
 use Rattle.tableaux.proofs.tableau.reduce.Tie as tie
@@ -9,7 +9,7 @@ reduce-spec =
     (tie.spec
     (λ c κs. search needs)
     (λ c κs. search needs)
-    (λ c κs. search needs)
+    (λ c κs. reduce-small (c .before .before .before .before .before .before .before .pre) (c .before .before .before .before .before .before .before .args .step))
     (λ c κs. reduce-meets (c .before .before .before .before .before .before .before .before .before .before .before .pre) (c .before .before .before .before .before .before .before .before .before .before .before .args .step) (c .before .before .before .note-step .ensures) (c .before .before .before .before .before .before .before .literal-of .ensures))
     (λ c. search needs)
     (λ c. search needs)

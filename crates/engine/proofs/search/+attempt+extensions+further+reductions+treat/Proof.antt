@@ -1,6 +1,7 @@
 -- The search: a leaf is treated by trying its reductions and its extensions in turn, and a try that leads on by treating the next leaf. At
 -- each step fewer can be taken: the room falls. Every try that fails is taken back, so the loops go on from where they were.
 use borrow.Author.Needs.{needs}
+use borrow.Author.Tests.{not-true, not-false}
 use borrow.Fn.Kinds.{In}
 use borrow.Fn.PlainCycle.{Measures, is, falls, and}
 use denote.Enum.Declared.{tagOf, declared}
@@ -19,45 +20,55 @@ use Rattle.engine.proofs.search.Ending.{enum as ending}
 use Rattle.unification.proofs.unify.Meeting.{enum as meeting}
 use Rattle.engine.proofs.Rows.{room-again, treats-again, Rowing, rowing-by, rowing-out, rowing-ended, rowing-on}
 use Rattle.engine.proofs.Attempts.{attempt-restores, attempt-failed, attempt-treats, attempt-falls, attempt-ended, attempt-good-below, attempt-restores-below, attempt-none}
+use Rattle.engine.proofs.NowhereSeen.{symbol-asked, opening-again, rowing-vain}
 use Rattle.engine.proofs.Climbs.{Climbing, climbs, climb-begin, climb-row, climb-end, climb-small, climb-few, climb-falls, climb-inside, climb-on, climb-past, climb-at, climb-against}
-use Rattle.engine.proofs.Treating.{treat-closed, treat-small, treat-inside, treat-wanted, treat-ended, treat-again, treat-room, treat-wanted-again, treat-used, treat-extended, linked, link-begin, link-row, link-end, link-low, link-unpacks, link-leads, link-less, link-next, link-allows}
+use Rattle.engine.proofs.Treating.{treat-closed, treat-small, treat-inside, treat-wanted, treat-ended, treat-again, treat-room, treat-word-again, treat-further, further-wanted, further-used, further-extends, further-extended, further-allows, further-out, further-restarted, linked, link-begin, link-row, link-end, link-low, link-unpacks, link-leads, link-less, link-next, link-allows}
 use Rattle.engine.proofs.search.attempt.Reads as attempt
 use Rattle.engine.proofs.search.attempt.Kinds as attempt-kinds
-use Rattle.engine.proofs.search.+attempt+extensions+reductions+treat.Lts-attempt as attempt-lts
+use Rattle.engine.proofs.search.+attempt+extensions+further+reductions+treat.Lts-attempt as attempt-lts
 use Rattle.engine.proofs.search.extensions.Reads as extensions
 use Rattle.engine.proofs.search.extensions.Kinds as extensions-kinds
-use Rattle.engine.proofs.search.+attempt+extensions+reductions+treat.Lts-extensions as extensions-lts
+use Rattle.engine.proofs.search.+attempt+extensions+further+reductions+treat.Lts-extensions as extensions-lts
+use Rattle.engine.proofs.search.further.Reads as further
+use Rattle.engine.proofs.search.further.Kinds as further-kinds
+use Rattle.engine.proofs.search.+attempt+extensions+further+reductions+treat.Lts-further as further-lts
 use Rattle.engine.proofs.search.reductions.Reads as reductions
 use Rattle.engine.proofs.search.reductions.Kinds as reductions-kinds
-use Rattle.engine.proofs.search.+attempt+extensions+reductions+treat.Lts-reductions as reductions-lts
+use Rattle.engine.proofs.search.+attempt+extensions+further+reductions+treat.Lts-reductions as reductions-lts
 use Rattle.engine.proofs.search.treat.Reads as treat
 use Rattle.engine.proofs.search.treat.Kinds as treat-kinds
-use Rattle.engine.proofs.search.+attempt+extensions+reductions+treat.Lts-treat as treat-lts
+use Rattle.engine.proofs.search.+attempt+extensions+further+reductions+treat.Lts-treat as treat-lts
 use Rattle.index.proofs.entries.other_sign.Reads as other-sign
+use Rattle.engine.proofs.profile.restarts.Reads as restarting
 use Rattle.index.proofs.links.first.Reads as first
 use Rattle.index.proofs.links.next.Reads as next
 use Rattle.index.proofs.notes.unpacked.Reads as unpacked
 use Rattle.index.proofs.Reached.{Leads}
 use Rattle.unification.proofs.memory.word_at.Reads as word-at
+use Rattle.engine.proofs.search.in_vain.Reads as in-vain
+use Rattle.engine.proofs.vain.first_symbol.Reads as first-symbol
 use Rattle.engine.proofs.search.restore.Reads as restore
 use Rattle.engine.proofs.search.take.Reads as taking
 use Rattle.engine.proofs.search.without.Reads as without
 use Rattle.tableaux.proofs.tableau.literal_of.Reads as literal-of
 use Rattle.tableaux.proofs.tableau.parent_of.Reads as parent-of
-use Rattle.engine.proofs.search.+attempt+extensions+reductions+treat.{statement}
-use Rattle.engine.proofs.search.+attempt+extensions+reductions+treat.Tie.{close}
+use Rattle.engine.proofs.search.+attempt+extensions+further+reductions+treat.{statement}
+use Rattle.engine.proofs.search.+attempt+extensions+further+reductions+treat.Tie.{close}
 
 abbrev μ-attempt : Measures 2 attempt-kinds.ps ℕ
-μ-attempt κs a = 4 * roomAt (a .0 .now) (a .1 .0 .now) (a .1 .1 .0) (a .1 .1 .1 .0) + 1
+μ-attempt κs a = 5 * roomAt (a .0 .now) (a .1 .0 .now) (a .1 .1 .0) (a .1 .1 .1 .0) + 1
 
 abbrev μ-extensions : Measures 2 extensions-kinds.ps ℕ
-μ-extensions κs a = 4 * roomAt (a .0 .now) (a .1 .0 .now) (a .1 .1 .0) (a .1 .1 .1 .0) + 2
+μ-extensions κs a = 5 * roomAt (a .0 .now) (a .1 .0 .now) (a .1 .1 .0) (a .1 .1 .1 .0) + 2
+
+abbrev μ-further : Measures 2 further-kinds.ps ℕ
+μ-further κs a = 5 * roomAt (a .0 .now) (a .1 .0 .now) (a .1 .1 .0) (a .1 .1 .1 .0) + 3
 
 abbrev μ-reductions : Measures 2 reductions-kinds.ps ℕ
-μ-reductions κs a = 4 * roomAt (a .0 .now) (a .1 .0 .now) (a .1 .1 .0) (a .1 .1 .1 .0) + 2
+μ-reductions κs a = 5 * roomAt (a .0 .now) (a .1 .0 .now) (a .1 .1 .0) (a .1 .1 .1 .0) + 2
 
 abbrev μ-treat : Measures 2 treat-kinds.ps ℕ
-μ-treat κs a = 4 * roomAt (a .0 .now) (a .1 .0 .now) (a .1 .1 .0) (a .1 .1 .1 .0) + 3
+μ-treat κs a = 5 * roomAt (a .0 .now) (a .1 .0 .now) (a .1 .1 .0) (a .1 .1 .1 .0) + 4
 
 abbrev attempt-at : ℕ → In 2 attempt-kinds.ps
 attempt-at t = and 2 attempt-kinds.ps (is 2 attempt-kinds.ps μ-attempt t) attempt.Pre
@@ -70,6 +81,12 @@ extensions-at t = and 2 extensions-kinds.ps (is 2 extensions-kinds.ps μ-extensi
 
 abbrev extensions-below : ℕ → In 2 extensions-kinds.ps
 extensions-below t = and 2 extensions-kinds.ps (falls 2 extensions-kinds.ps _<_ μ-extensions t) extensions.Pre
+
+abbrev further-at : ℕ → In 2 further-kinds.ps
+further-at t = and 2 further-kinds.ps (is 2 further-kinds.ps μ-further t) further.Pre
+
+abbrev further-below : ℕ → In 2 further-kinds.ps
+further-below t = and 2 further-kinds.ps (falls 2 further-kinds.ps _<_ μ-further t) further.Pre
 
 abbrev reductions-at : ℕ → In 2 reductions-kinds.ps
 reductions-at t = and 2 reductions-kinds.ps (is 2 reductions-kinds.ps μ-reductions t) reductions.Pre
@@ -88,7 +105,7 @@ told-attempt t = (taking.Asked, taking.Learnt, restore.Asked, restore.Learnt, wi
 
 abbrev told-extensions : ℕ → extensions-lts.Claims
 told-extensions t =
-    (first.Asked, first.Learnt, without.Asked, without.Learnt, unpacked.Asked, unpacked.Learnt, next.Asked, next.Learnt, attempt-below t, attempt.Post)
+    (literal-of.Asked, literal-of.Learnt, first-symbol.Asked, first-symbol.Learnt, first.Asked, first.Learnt, without.Asked, without.Learnt, unpacked.Asked, unpacked.Learnt, next.Asked, next.Learnt, in-vain.Asked, in-vain.Learnt, attempt-below t, attempt.Post)
 
 abbrev told-reductions : ℕ → reductions-lts.Claims
 told-reductions t =
@@ -96,15 +113,19 @@ told-reductions t =
 
 abbrev told-treat : ℕ → treat-lts.Claims
 told-treat t =
-    (literal-of.Asked, literal-of.Learnt, word-at.Asked, word-at.Learnt, other-sign.Asked, other-sign.Learnt, reductions-below t, reductions.Post, extensions-below t, extensions.Post)
+    (literal-of.Asked, literal-of.Learnt, word-at.Asked, word-at.Learnt, other-sign.Asked, other-sign.Learnt, reductions-below t, reductions.Post, further-below t, further.Post)
+
+abbrev told-further : ℕ → further-lts.Claims
+told-further t =
+    (without.Asked, without.Learnt, restarting.Asked, restarting.Learnt, other-sign.Asked, other-sign.Learnt, extensions-below t, extensions.Post, attempt-below t, attempt.Post)
 
 abbrev Inv-extensions : extensions-lts.InvT-loop
-Inv-extensions file work₀ task place wanted tries link₀ left₀ work link left =
+Inv-extensions file work₀ task place wanted tries symbol link₀ left₀ work link left =
     Leads file (task .body) wanted link
     × Rowing file work₀ work task place tries left (extensionsAt file work₀ task place) (extensionsAhead file task wanted link)
 
 abbrev μ-link : extensions-lts.MeasureT-loop
-μ-link file work₀ task place wanted tries link₀ left₀ work link left = (4096 - link) % 4096
+μ-link file work₀ task place wanted tries symbol link₀ left₀ work link left = (4096 - link) % 4096
 
 abbrev Inv-reductions : reductions-lts.InvT-loop
 Inv-reductions file work₀ task place wanted tries ancestor₀ height₀ left₀ work ancestor height left =
@@ -127,11 +148,12 @@ settled Nothing (inl e) z = omega (arith, e)
 settled Nothing (inr e) z = omega (arith, e)
 settled Out e z = let y : _≡_ {A = ℕ} 0 1 = cc in omega arith
 
-pub +attempt+extensions+reductions+treat-spec : {M : Type 1} → statement M
-+attempt+extensions+reductions+treat-spec =
+pub +attempt+extensions+further+reductions+treat-spec : {M : Type 1} → statement M
++attempt+extensions+further+reductions+treat-spec =
     close
     μ-attempt
     μ-extensions
+    μ-further
     μ-reductions
     μ-treat
     (λ t. attempt-lts.spec
@@ -159,24 +181,48 @@ pub +attempt+extensions+reductions+treat-spec : {M : Type 1} → statement M
     extensions.Post
     Inv-extensions
     μ-link
-    (λ c κs. (_, linked (c .before .before .before .pre .1 .0) (c .before .before .before .pre .1 .1) (c .before .before .before .pre .1 .3)))
-    (λ c. (link-begin (c .before .before .before .before .pre .1 .0) (c .before .before .before .before .pre .1 .1) (c .before .before .before .before .pre .1 .3) (c .before .before .before .before .pre .1 .2) (c .first .ensures _ (linked (c .before .before .before .before .pre .1 .0) (c .before .before .before .before .pre .1 .1) (c .before .before .before .before .pre .1 .3))), link-row (c .before .before .before .before .pre .1 .0) (c .before .before .before .before .pre .1 .1) (c .before .before .before .before .pre .1 .3) (c .before .before .before .before .pre .1 .2) (c .first .ensures _ (linked (c .before .before .before .before .pre .1 .0) (c .before .before .before .before .pre .1 .1) (c .before .before .before .before .pre .1 .3))) (c .before .before .before .before .args .tries)))
+    (λ c κs. let s = c .before .before .before in treat-small (s .pre .1 .0) (s .pre .1 .1))
+    (λ c κs. let s = c .before .before .before .before in symbol-asked (s .pre .1 .0) (s .pre .1 .1) (c .literal-of .ensures))
+    (λ c κs. let s = c .before .before .before .before .before .before in (_, linked (s .pre .1 .0) (s .pre .1 .1) (s .pre .1 .3) (s .pre .1 .4)))
+    (λ c. let s = c .before .before .before .before .before .before .before in (link-begin (s .pre .1 .0) (s .pre .1 .1) (s .pre .1 .3) (s .pre .1 .4) (s .pre .1 .2) (c .first .ensures _ (linked (s .pre .1 .0) (s .pre .1 .1) (s .pre .1 .3) (s .pre .1 .4))), link-row (s .pre .1 .0) (s .pre .1 .1) (s .pre .1 .3) (s .pre .1 .4) (s .pre .1 .2) (c .first .ensures _ (linked (s .pre .1 .0) (s .pre .1 .1) (s .pre .1 .3) (s .pre .1 .4))) (s .args .tries)))
     (λ c. search needs)
     (λ c κs. search needs)
-    (λ c. c .before .before .before .loop .inv .1 .again .good .size ∙ sym (c .before .before .before .before .before .before .before .before .pre .1 .0 .ready .good .size))
-    (λ c. rowing-out (c .before .before .before .before .before .before .before .before .pre .1 .0) (link-next (c .before .before .before .before .before .before .before .before .pre .1 .0) (c .before .before .before .before .before .before .before .before .pre .1 .1) (c .before .before .before .before .before .before .before .before .pre .1 .3) (c .before .before .before .before .before .before .before .before .pre .1 .2) (c .before .before .before .loop .link) (c .before .before .before .loop .inv .0) (c .before .before .before .loop .inv .1) (c .before .before .loop-test .taken) refl refl) (c .before .if1 .taken) (c .without .ensures))
-    (λ c κs. link-unpacks (c .before .before .before .before .before .before .before .before .pre .1 .0) (c .before .before .before .before .before .before .before .before .pre .1 .1) (c .before .before .before .before .before .before .before .before .pre .1 .3) (c .before .before .before .before .before .before .before .before .pre .1 .2) (c .before .before .before .loop .link) (c .before .before .before .loop .inv .0) (c .before .before .before .loop .inv .1) (c .before .before .loop-test .taken))
-    (λ c κs. link-low (c .before .before .before .before .before .before .before .before .before .before .pre .1 .0) (c .before .before .before .before .before .before .before .before .before .before .pre .1 .1) (c .before .before .before .before .before .before .before .before .before .before .pre .1 .3) (c .before .before .before .before .before .before .before .before .before .before .pre .1 .2) (c .before .before .before .before .before .loop .link) (c .before .before .before .before .before .loop .inv .0) (c .before .before .before .before .before .loop .inv .1) (c .before .before .before .before .loop-test .taken))
+    (λ c. let s = c .before .before .before .before .before .before .before .before .before .before .before in let l = c .before .before .before .loop in l .inv .1 .again .good .size ∙ sym (s .pre .1 .0 .ready .good .size))
+    (λ c. let s = c .before .before .before .before .before .before .before .before .before .before .before in let l = c .before .before .before .loop in rowing-out (s .pre .1 .0) (link-next (s .pre .1 .0) (s .pre .1 .1) (s .pre .1 .3) (s .pre .1 .4) (s .pre .1 .2) (l .link) (l .inv .0) (l .inv .1) (c .before .before .loop-test .taken) refl refl) (c .before .if1 .taken) (c .without .ensures))
+    (λ c κs. let s = c .before .before .before .before .before .before .before .before .before .before .before in let l = c .before .before .before .loop in link-unpacks (s .pre .1 .0) (s .pre .1 .1) (s .pre .1 .3) (s .pre .1 .4) (s .pre .1 .2) (l .link) (l .inv .0) (l .inv .1) (c .before .before .loop-test .taken))
+    (λ c κs. let s = c .before .before .before .before .before .before .before .before .before .before .before .before .before in let l = c .before .before .before .before .before .loop in link-low (s .pre .1 .0) (s .pre .1 .1) (s .pre .1 .3) (s .pre .1 .4) (s .pre .1 .2) (l .link) (l .inv .0) (l .inv .1) (c .before .before .before .before .loop-test .taken))
+    (λ c κs. let s = c .before .before .before .before .before .before .before .before .before .before .before .before .before .before .before in let l = c .before .before .before .before .before .before .before .loop in (treats-again (s .pre .1 .0) (l .inv .1 .again), s .pre .1 .1, link-allows (s .pre .1 .0) (s .pre .1 .1) (s .pre .1 .3) (s .pre .1 .4) (s .pre .1 .2) (l .link) (l .inv .0) (l .inv .1) (c .before .before .before .before .before .before .loop-test .taken) (c .before .next .ensures) (c .before .before .before .unpacked .ensures), opening-again (s .pre .1 .0) (s .pre .1 .1) (c .before .before .before .before .before .before .before .before .before .before .before .literal-of .ensures) (c .before .before .before .before .before .before .before .before .before .before .first-symbol .ensures) (l .inv .1 .again)))
     (λ c. omega arith)
-    (λ c κs. (omega (arith, room-again (c .before .before .before .before .before .before .before .before .before .before .before .before .args .task) (c .before .before .before .before .before .before .before .before .before .before .before .before .pre .1 .0 .ready) (c .before .before .before .before .before .before .before .loop .inv .1 .again), c .before .before .before .before .before .before .before .before .before .before .before .before .pre .0), (treats-again (c .before .before .before .before .before .before .before .before .before .before .before .before .pre .1 .0) (c .before .before .before .before .before .before .before .loop .inv .1 .again), c .before .before .before .before .before .before .before .before .before .before .before .before .pre .1 .1, link-allows (c .before .before .before .before .before .before .before .before .before .before .before .before .pre .1 .0) (c .before .before .before .before .before .before .before .before .before .before .before .before .pre .1 .1) (c .before .before .before .before .before .before .before .before .before .before .before .before .pre .1 .3) (c .before .before .before .before .before .before .before .before .before .before .before .before .pre .1 .2) (c .before .before .before .before .before .before .before .loop .link) (c .before .before .before .before .before .before .before .loop .inv .0) (c .before .before .before .before .before .before .before .loop .inv .1) (c .before .before .before .before .before .before .loop-test .taken) (c .before .next .ensures) (c .before .before .before .unpacked .ensures))))
+    (λ c. let s = c .before .before .before .before .before .before .before .before .before .before .before .before .before .before .before .before .before in let l = c .before .before .before .before .before .before .before .before .before .loop in link-less (s .pre .1 .0) (s .pre .1 .1) (s .pre .1 .3) (s .pre .1 .4) (s .pre .1 .2) (l .link) (l .inv .0) (l .inv .1) (c .before .before .before .before .before .before .before .before .loop-test .taken) (c .before .before .before .next .ensures))
+    (λ c. let s = c .before .before .before .before .before .before .before .before .before .before .before .before .before .before .before .before .before in let l = c .before .before .before .before .before .before .before .before .before .loop in (link-leads (s .pre .1 .0) (s .pre .1 .1) (s .pre .1 .3) (s .pre .1 .4) (s .pre .1 .2) (l .link) (l .inv .0) (l .inv .1) (c .before .before .before .before .before .before .before .before .loop-test .taken) (c .before .before .before .next .ensures), rowing-vain (s .pre .1 .0) (s .pre .1 .1) (Enter (c .before .before .before .before .before .unpacked .result)) (link-next (s .pre .1 .0) (s .pre .1 .1) (s .pre .1 .3) (s .pre .1 .4) (s .pre .1 .2) (l .link) (l .inv .0) (l .inv .1) (c .before .before .before .before .before .before .before .before .loop-test .taken) (c .before .before .before .next .ensures) (c .before .before .before .before .before .unpacked .ensures)) (c .before .before .before .before .before .before .before .if1 .left) (c .before .in-vain .ensures (c .if2 .taken))))
+    (λ c. omega arith)
+    (λ c κs. let s = c .before .before .before .before .before .before .before .before .before .before .before .before .before .before .before .before .before .before in let l = c .before .before .before .before .before .before .before .before .before .before .loop in (omega (arith, room-again (s .args .task) (s .pre .1 .0 .ready) (l .inv .1 .again), s .pre .0), (treats-again (s .pre .1 .0) (l .inv .1 .again), s .pre .1 .1, link-allows (s .pre .1 .0) (s .pre .1 .1) (s .pre .1 .3) (s .pre .1 .4) (s .pre .1 .2) (l .link) (l .inv .0) (l .inv .1) (c .before .before .before .before .before .before .before .before .before .loop-test .taken) (c .before .before .before .before .next .ensures) (c .before .before .before .before .before .before .unpacked .ensures))))
     (λ c. search needs)
-    (λ c. c .before .before .before .attempt .kept .1 .0 ∙ c .before .before .before .before .before .before .before .before .before .before .before .loop .inv .1 .again .good .size ∙ sym (c .before .before .before .before .before .before .before .before .before .before .before .before .before .before .before .before .pre .1 .0 .ready .good .size))
-    (λ c. rowing-ended (c .before .before .before .before .before .before .before .before .before .before .before .before .before .before .before .before .pre .1 .0) (Enter (c .before .before .before .before .before .before .before .unpacked .result)) (link-next (c .before .before .before .before .before .before .before .before .before .before .before .before .before .before .before .before .pre .1 .0) (c .before .before .before .before .before .before .before .before .before .before .before .before .before .before .before .before .pre .1 .1) (c .before .before .before .before .before .before .before .before .before .before .before .before .before .before .before .before .pre .1 .3) (c .before .before .before .before .before .before .before .before .before .before .before .before .before .before .before .before .pre .1 .2) (c .before .before .before .before .before .before .before .before .before .before .before .loop .link) (c .before .before .before .before .before .before .before .before .before .before .before .loop .inv .0) (c .before .before .before .before .before .before .before .before .before .before .before .loop .inv .1) (c .before .before .before .before .before .before .before .before .before .before .loop-test .taken) (c .before .before .before .before .before .next .ensures) (c .before .before .before .before .before .before .before .unpacked .ensures)) (c .before .before .before .before .before .before .before .before .before .if1 .left) (c .before .before .before .attempt .ensures) (settled (c .before .before .before .attempt .result .ending) (c .match .keys2)))
-    (λ c. link-less (c .before .before .before .before .before .before .before .before .before .before .before .before .before .before .before .before .before .pre .1 .0) (c .before .before .before .before .before .before .before .before .before .before .before .before .before .before .before .before .before .pre .1 .1) (c .before .before .before .before .before .before .before .before .before .before .before .before .before .before .before .before .before .pre .1 .3) (c .before .before .before .before .before .before .before .before .before .before .before .before .before .before .before .before .before .pre .1 .2) (c .before .before .before .before .before .before .before .before .before .before .before .before .loop .link) (c .before .before .before .before .before .before .before .before .before .before .before .before .loop .inv .0) (c .before .before .before .before .before .before .before .before .before .before .before .before .loop .inv .1) (c .before .before .before .before .before .before .before .before .before .before .before .loop-test .taken) (c .before .before .before .before .before .before .next .ensures))
-    (λ c. (link-leads (c .before .before .before .before .before .before .before .before .before .before .before .before .before .before .before .before .before .pre .1 .0) (c .before .before .before .before .before .before .before .before .before .before .before .before .before .before .before .before .before .pre .1 .1) (c .before .before .before .before .before .before .before .before .before .before .before .before .before .before .before .before .before .pre .1 .3) (c .before .before .before .before .before .before .before .before .before .before .before .before .before .before .before .before .before .pre .1 .2) (c .before .before .before .before .before .before .before .before .before .before .before .before .loop .link) (c .before .before .before .before .before .before .before .before .before .before .before .before .loop .inv .0) (c .before .before .before .before .before .before .before .before .before .before .before .before .loop .inv .1) (c .before .before .before .before .before .before .before .before .before .before .before .loop-test .taken) (c .before .before .before .before .before .before .next .ensures), rowing-on (c .before .before .before .before .before .before .before .before .before .before .before .before .before .before .before .before .before .pre .1 .0) (Enter (c .before .before .before .before .before .before .before .before .unpacked .result)) (link-next (c .before .before .before .before .before .before .before .before .before .before .before .before .before .before .before .before .before .pre .1 .0) (c .before .before .before .before .before .before .before .before .before .before .before .before .before .before .before .before .before .pre .1 .1) (c .before .before .before .before .before .before .before .before .before .before .before .before .before .before .before .before .before .pre .1 .3) (c .before .before .before .before .before .before .before .before .before .before .before .before .before .before .before .before .before .pre .1 .2) (c .before .before .before .before .before .before .before .before .before .before .before .before .loop .link) (c .before .before .before .before .before .before .before .before .before .before .before .before .loop .inv .0) (c .before .before .before .before .before .before .before .before .before .before .before .before .loop .inv .1) (c .before .before .before .before .before .before .before .before .before .before .before .loop-test .taken) (c .before .before .before .before .before .before .next .ensures) (c .before .before .before .before .before .before .before .before .unpacked .ensures)) (c .before .before .before .before .before .before .before .before .before .before .if1 .left) (c .before .before .before .before .attempt .ensures) (c .enum-told .given .1)))
+    (λ c. let s = c .before .before .before .before .before .before .before .before .before .before .before .before .before .before .before .before .before .before .before .before .before .before in let l = c .before .before .before .before .before .before .before .before .before .before .before .before .before .before .loop in c .before .before .before .attempt .kept .1 .0 ∙ l .inv .1 .again .good .size ∙ sym (s .pre .1 .0 .ready .good .size))
+    (λ c. let s = c .before .before .before .before .before .before .before .before .before .before .before .before .before .before .before .before .before .before .before .before .before .before in let l = c .before .before .before .before .before .before .before .before .before .before .before .before .before .before .loop in rowing-ended (s .pre .1 .0) (Enter (c .before .before .before .before .before .before .before .before .before .before .unpacked .result)) (link-next (s .pre .1 .0) (s .pre .1 .1) (s .pre .1 .3) (s .pre .1 .4) (s .pre .1 .2) (l .link) (l .inv .0) (l .inv .1) (c .before .before .before .before .before .before .before .before .before .before .before .before .before .loop-test .taken) (c .before .before .before .before .before .before .before .before .next .ensures) (c .before .before .before .before .before .before .before .before .before .before .unpacked .ensures)) (c .before .before .before .before .before .before .before .before .before .before .before .before .if1 .left) (c .before .before .before .attempt .ensures) (settled (c .before .before .before .attempt .result .ending) (c .match .keys2)))
+    (λ c. let s = c .before .before .before .before .before .before .before .before .before .before .before .before .before .before .before .before .before .before .before .before .before .before .before in let l = c .before .before .before .before .before .before .before .before .before .before .before .before .before .before .before .loop in link-less (s .pre .1 .0) (s .pre .1 .1) (s .pre .1 .3) (s .pre .1 .4) (s .pre .1 .2) (l .link) (l .inv .0) (l .inv .1) (c .before .before .before .before .before .before .before .before .before .before .before .before .before .before .loop-test .taken) (c .before .before .before .before .before .before .before .before .before .next .ensures))
+    (λ c. let s = c .before .before .before .before .before .before .before .before .before .before .before .before .before .before .before .before .before .before .before .before .before .before .before in let l = c .before .before .before .before .before .before .before .before .before .before .before .before .before .before .before .loop in (link-leads (s .pre .1 .0) (s .pre .1 .1) (s .pre .1 .3) (s .pre .1 .4) (s .pre .1 .2) (l .link) (l .inv .0) (l .inv .1) (c .before .before .before .before .before .before .before .before .before .before .before .before .before .before .loop-test .taken) (c .before .before .before .before .before .before .before .before .before .next .ensures), rowing-on (s .pre .1 .0) (Enter (c .before .before .before .before .before .before .before .before .before .before .before .unpacked .result)) (link-next (s .pre .1 .0) (s .pre .1 .1) (s .pre .1 .3) (s .pre .1 .4) (s .pre .1 .2) (l .link) (l .inv .0) (l .inv .1) (c .before .before .before .before .before .before .before .before .before .before .before .before .before .before .loop-test .taken) (c .before .before .before .before .before .before .before .before .before .next .ensures) (c .before .before .before .before .before .before .before .before .before .before .before .unpacked .ensures)) (c .before .before .before .before .before .before .before .before .before .before .before .before .before .if1 .left) (c .before .before .before .before .attempt .ensures) (c .enum-told .given .1)))
     (λ c κs. search needs)
-    (λ c. c .before .before .loop .inv .1 .again .good .size ∙ sym (c .before .before .before .before .before .before .before .pre .1 .0 .ready .good .size))
-    (λ c. link-end (c .before .before .before .before .before .before .before .pre .1 .0) (c .before .before .before .before .before .before .before .pre .1 .1) (c .before .before .before .before .before .before .before .pre .1 .3) (c .before .before .before .before .before .before .before .pre .1 .2) (c .before .before .loop .link) (c .before .before .loop .inv .0) (c .before .before .loop .inv .1) (omega (arith, c .before .loop-test .left)) (c .without2 .ensures)))
+    (λ c. let s = c .before .before .before .before .before .before .before .before .before .before in let l = c .before .before .loop in l .inv .1 .again .good .size ∙ sym (s .pre .1 .0 .ready .good .size))
+    (λ c. let s = c .before .before .before .before .before .before .before .before .before .before in let l = c .before .before .loop in link-end (s .pre .1 .0) (s .pre .1 .1) (s .pre .1 .3) (s .pre .1 .4) (s .pre .1 .2) (l .link) (l .inv .0) (l .inv .1) (omega (arith, c .before .loop-test .left)) (c .without2 .ensures)))
+    (λ t. further-lts.spec
+    (told-further t)
+    (further-at t)
+    further.Post
+    (λ c. omega (arith, c .before .before .before .pre .1 .0 .ready .good .size))
+    (λ c κs. search needs)
+    (λ c. further-used (c .before .before .before .before .before .before .pre .1 .0) (c .before .before .before .before .before .before .pre .1 .1) (c .before .before .before .before .before .before .pre .1 .2) (c .before .if1 .taken) (c .without .ensures))
+    (λ c κs. search needs)
+    (λ c κs. search needs)
+    (λ c κs. (omega (arith, c .before .before .before .before .before .before .before .before .before .pre .0), (c .before .before .before .before .before .before .before .before .before .pre .1 .0, c .before .before .before .before .before .before .before .before .before .pre .1 .1, further-wanted (c .before .before .before .before .before .before .before .before .before .pre .1 .0) (c .before .before .before .before .before .before .before .before .before .pre .1 .1) (c .before .before .before .before .before .before .before .before .before .pre .1 .2) (c .other-sign .ensures), c .before .before .before .before .if1 .left, further-extends (c .before .before .before .before .before .before .before .before .before .pre .1 .0) (c .before .before .before .before .before .before .before .before .before .pre .1 .1) (c .before .before .before .before .before .before .before .before .before .pre .1 .2) (c .before .before .before .before .if1 .left) (c .before .before .before .restarts .ensures) (not-true _ (c .before .before .if2 .taken)))))
+    (λ c. search needs)
+    (λ c. further-extended (c .before .before .before .before .before .before .before .before .before .before .before .before .pre .1 .0) (c .before .before .before .before .before .before .before .before .before .before .before .before .pre .1 .1) (c .before .before .before .before .before .before .before .before .before .before .before .before .pre .1 .2) (c .before .before .before .before .before .before .before .if1 .left) (c .before .before .before .before .before .before .restarts .ensures) (not-true _ (c .before .before .before .before .before .if2 .taken)) (c .before .before .extensions .ensures))
+    (λ c κs. search needs)
+    (λ c. further-out (c .before .before .before .before .before .before .before .before .before .pre .1 .0) (c .before .before .before .before .before .before .before .before .before .pre .1 .1) (c .before .before .before .before .before .before .before .before .before .pre .1 .2) (c .before .before .before .before .if1 .left) (c .before .before .before .restarts .ensures) (not-false _ (c .before .before .if2 .left)) (c .before .if3 .taken) (c .without2 .ensures))
+    (λ c. omega (arith, c .before .if3 .left))
+    (λ c κs. (omega (arith, c .before .before .before .before .before .before .before .before .before .pre .0), (c .before .before .before .before .before .before .before .before .before .pre .1 .0, c .before .before .before .before .before .before .before .before .before .pre .1 .1, further-allows (c .before .before .before .before .before .before .before .before .before .pre .1 .0) (c .before .before .before .before .before .before .before .before .before .pre .1 .1) (c .before .before .before .before .before .before .before .before .before .pre .1 .2) (c .before .before .before .before .if1 .left) (c .before .before .before .restarts .ensures) (not-false _ (c .before .before .if2 .left)))))
+    (λ c. search needs)
+    (λ c. further-restarted (c .before .before .before .before .before .before .before .before .before .before .before .before .pre .1 .0) (c .before .before .before .before .before .before .before .before .before .before .before .before .pre .1 .1) (c .before .before .before .before .before .before .before .before .before .before .before .before .pre .1 .2) (c .before .before .before .before .before .before .before .if1 .left) (c .before .before .before .before .before .before .restarts .ensures) (not-false _ (c .before .before .before .before .before .if2 .left)) (c .before .before .before .before .if3 .left) (c .before .before .attempt .ensures)))
     (λ t. reductions-lts.spec
     (told-reductions t)
     (reductions-at t)
@@ -212,13 +258,10 @@ pub +attempt+extensions+reductions+treat-spec : {M : Type 1} → statement M
     (λ c κs. treat-small (c .before .before .before .before .pre .1) (omega (arith, c .before .if1 .left)))
     (λ c κs. treat-inside (c .before .before .before .before .before .pre .1) (omega (arith, c .before .before .if1 .left)) (c .literal-of .ensures))
     (λ c κs. search needs)
-    (λ c κs. (omega (arith, c .before .before .before .before .before .before .before .before .pre .0), (c .before .before .before .before .before .before .before .before .pre .1, omega (arith, c .before .before .before .before .before .if1 .left), treat-wanted (c .before .before .before .before .before .before .before .before .pre .1) (omega (arith, c .before .before .before .before .before .if1 .left)) (c .before .before .before .literal-of .ensures) (c .before .before .word-at .ensures) (c .before .other-sign .ensures))))
+    (λ c κs. (omega (arith, c .before .before .before .before .before .before .before .before .pre .0), (c .before .before .before .before .before .before .before .before .pre .1, omega (arith, c .before .before .before .before .before .if1 .left), treat-wanted (c .before .before .before .before .before .before .before .before .pre .1) (omega (arith, c .before .before .before .before .before .if1 .left)) (c .before .before .before .literal-of .ensures) (c .before .before .word-at .ensures) (c .other-sign .ensures))))
     (λ c. search needs)
     (λ c. c .before .before .before .reductions .kept .1 .0)
     (λ c. treat-ended (c .before .before .before .before .before .before .before .before .before .before .before .before .pre .1) (omega (arith, c .before .before .before .before .before .before .before .before .before .if1 .left)) (c .before .before .before .reductions .ensures) (settled (c .before .before .before .reductions .result .ending) (c .match .keys2)))
-    (λ c. omega (arith, c .before .before .before .before .before .reductions .kept .1 .0, c .before .before .before .before .before .before .before .before .before .before .before .before .before .before .pre .1 .ready .good .size))
-    (λ c. c .before .before .before .before .before .before .before .reductions .kept .1 .0)
-    (λ c. treat-used (c .before .before .before .before .before .before .before .before .before .before .before .before .before .before .before .before .pre .1) (omega (arith, c .before .before .before .before .before .before .before .before .before .before .before .before .before .if1 .left)) (c .before .before .before .before .before .before .before .reductions .ensures) (c .before .before .before .enum-told .given .1) (c .if2 .taken))
-    (λ c κs. (omega (arith, treat-room (c .before .before .before .before .before .before .before .before .before .before .before .before .before .before .before .before .before .pre .1) (omega (arith, c .before .before .before .before .before .before .before .before .before .before .before .before .before .before .if1 .left)) (c .before .before .before .before .before .before .before .before .reductions .ensures) (c .before .before .before .before .enum-told .given .1), c .before .before .before .before .before .before .before .before .before .before .before .before .before .before .before .before .before .pre .0), (treat-again (c .before .before .before .before .before .before .before .before .before .before .before .before .before .before .before .before .before .pre .1) (omega (arith, c .before .before .before .before .before .before .before .before .before .before .before .before .before .before .if1 .left)) (c .before .before .before .before .before .before .before .before .reductions .ensures) (c .before .before .before .before .enum-told .given .1), omega (arith, c .before .before .before .before .before .before .before .before .before .before .before .before .before .before .if1 .left), treat-wanted-again (c .before .before .before .before .before .before .before .before .before .before .before .before .before .before .before .before .before .pre .1) (omega (arith, c .before .before .before .before .before .before .before .before .before .before .before .before .before .before .if1 .left)) (c .before .before .before .before .before .before .before .before .reductions .ensures) (c .before .before .before .before .enum-told .given .1) (treat-wanted (c .before .before .before .before .before .before .before .before .before .before .before .before .before .before .before .before .before .pre .1) (omega (arith, c .before .before .before .before .before .before .before .before .before .before .before .before .before .before .if1 .left)) (c .before .before .before .before .before .before .before .before .before .before .before .before .literal-of .ensures) (c .before .before .before .before .before .before .before .before .before .before .before .word-at .ensures) (c .before .before .before .before .before .before .before .before .before .before .other-sign .ensures)), c .before .if2 .left)))
-    (λ c. c .before .before .extensions .kept .1 .0 ∙ c .before .before .before .before .before .before .before .before .before .before .before .reductions .kept .1 .0)
-    (λ c. treat-extended (c .before .before .before .before .before .before .before .before .before .before .before .before .before .before .before .before .before .before .before .before .pre .1) (omega (arith, c .before .before .before .before .before .before .before .before .before .before .before .before .before .before .before .before .before .if1 .left)) (c .before .before .before .before .before .before .before .before .before .before .before .reductions .ensures) (c .before .before .before .before .before .before .before .enum-told .given .1) (c .before .before .before .before .if2 .left) (c .before .before .extensions .ensures)))
+    (λ c κs. (omega (arith, treat-room (c .before .before .before .before .before .before .before .before .before .before .before .before .before .before .pre .1) (omega (arith, c .before .before .before .before .before .before .before .before .before .before .before .if1 .left)) (c .before .before .before .before .before .reductions .ensures) (c .before .enum-told .given .1), c .before .before .before .before .before .before .before .before .before .before .before .before .before .before .pre .0), (treat-again (c .before .before .before .before .before .before .before .before .before .before .before .before .before .before .pre .1) (omega (arith, c .before .before .before .before .before .before .before .before .before .before .before .if1 .left)) (c .before .before .before .before .before .reductions .ensures) (c .before .enum-told .given .1), omega (arith, c .before .before .before .before .before .before .before .before .before .before .before .if1 .left), treat-word-again (c .before .before .before .before .before .before .before .before .before .before .before .before .before .before .pre .1) (omega (arith, c .before .before .before .before .before .before .before .before .before .before .before .if1 .left)) (c .before .before .before .before .before .reductions .ensures) (c .before .enum-told .given .1) (c .before .before .before .before .before .before .before .before .before .literal-of .ensures) (c .before .before .before .before .before .before .before .before .word-at .ensures))))
+    (λ c. c .before .before .further .kept .1 .0 ∙ c .before .before .before .before .before .before .before .before .reductions .kept .1 .0)
+    (λ c. treat-further (c .before .before .before .before .before .before .before .before .before .before .before .before .before .before .before .before .before .pre .1) (omega (arith, c .before .before .before .before .before .before .before .before .before .before .before .before .before .before .if1 .left)) (c .before .before .before .before .before .before .before .before .reductions .ensures) (c .before .before .before .before .enum-told .given .1) (c .before .before .further .ensures)))

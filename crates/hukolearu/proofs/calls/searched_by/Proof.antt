@@ -1,12 +1,12 @@
 use borrow.Author.Needs.{needs}
 use Rattle.hukolearu.proofs.CallsTold.{search-laws}
-use Rattle.hukolearu.proofs.calls.searched.Statement.{statement}
-use Rattle.hukolearu.proofs.calls.searched.Tie as tie
+use Rattle.hukolearu.proofs.calls.searched_by.Statement.{statement}
+use Rattle.hukolearu.proofs.calls.searched_by.Tie as tie
 
 ruleset all = (needs, search-laws)
 
-pub searched-spec : {M : Type 1} → statement M
-searched-spec =
+pub searched-by-spec : {M : Type 1} → statement M
+searched-by-spec =
     tie.close
     (tie.spec
     (λ c κs. search all)

@@ -1,0 +1,5 @@
+pub mod Conclusions
+pub mod Walking
+pub mod Restart
+pub mod Promises
+pub mod RestartCases
