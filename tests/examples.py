@@ -1,7 +1,11 @@
 #!/usr/bin/env python3
-"""examples.py [--check]: works out what `hukolearu ask` prints for the texts in examples/, and writes examples/expected/NAME.out; with --check,
-compares with what is kept. The bound, tries, proof and answer come from the independent Rust program (rust/calls, verbs tptp-in and smallest);
-names, places in a text and the lines themselves are worked out here from document 02 and docs/CATALOGUER.md. Refusals are written by hand below."""
+"""examples.py [--check]: works out what `hukolearu ask` prints for the texts in examples/, and writes examples/expected/NAME.out; what `hukolearu check`
+and `hukolearu draw` print for the proofs TEXT-WHAT.proof in examples/proofs/ of the texts TEXT.p: examples/expected/TEXT-WHAT.check and .dot (the drawing
+of an accepted proof), and two drawings in docs/pictures/. For `season`, examples/NAME.questions are put to examples/NAME.p, and for `desk` every day and
+house up to the records' largest to examples/desk.records: examples/expected/NAME.season and desk.reports. With --check, compares with what is kept.
+The bound, tries, proof and answer come from the independent Rust program (rust/calls, verbs tptp-in, smallest, check and desk); names, places in a text
+and the lines themselves are worked out here from document 02 and docs/CATALOGUER.md, the leaves of a proof from document 01's "Tableau rules".
+Refusals are written by hand below."""
 import os, re, subprocess, sys
 
 top = os.path.dirname(os.path.dirname(os.path.abspath(__file__)))
@@ -17,6 +21,12 @@ expected `)`
 """,
     "two_questions": """examples/two_questions.p: there is more than one question (role negated_conjecture): first_question and second_question
 % SZS status InputError for examples/two_questions.p
+""",
+    "matinee-misspelt": """examples/proofs/matinee-misspelt.proof:2:8: the proof goes wrong here
+  extend playd_3 0
+         ^
+expected a clause: a name that one clause alone has, or a number
+% SZS status InputError for examples/matinee.p
 """,
 }
 
@@ -67,44 +77,282 @@ def shown(words, predicates, functions):
     return name + (f"({','.join(arguments)})" if arguments else ""), rest
 
 
-def expected(path):
+def question_file(path):
     data = open(path, "rb").read()
     read, (file,) = fields(calls(f"tptp-in 16000 / {data.hex().upper()}"))
     assert read["status"] == 0, path
-    told, (steps, answer) = fields(calls(f"smallest {LIMIT} {BUDGET} 16384 199 4096 / {' '.join(f'{w:08X}' for w in file)}"))
+    return data.decode(), file
+
+
+def hexed(words):
+    return " ".join(f"{w:08X}" for w in words) or "-"
+
+
+def clause_words(file):
+    """The words of each clause of a file, after its clause word."""
+    parts, at = [], 0
+    while at < len(file) - 4:
+        end = at + (file[at] >> 8 & 255) + 1
+        parts.append(file[at + 1:end])
+        at = end
+    return parts
+
+
+def literals(words, predicates, functions):
+    """The literals of a clause, each as it is shown, with its sign, predicate and arity."""
+    told = []
+    while words:
+        w = words[0]
+        text, words = shown(words, predicates, functions)
+        told.append((("~ " if w >> 15 & 1 else "") + text, w >> 15 & 1, w & 4095, w >> 12 & 7))
+    return told
+
+
+def steps_said(text, clauses):
+    """The steps of a proof's text: pairs ("reduce", height) and ("extend", clause, literal), or other words as they are."""
+    pieces, steps = text.split(), []
+    while pieces:
+        verb = pieces.pop(0)
+        if verb == "reduce":
+            steps.append(("reduce", int(pieces.pop(0))))
+        elif verb == "extend":
+            clause = pieces.pop(0)
+            steps.append(("extend", int(clause) if clause.isdigit() else clauses.index(clause), int(pieces.pop(0))))
+        else:
+            w = int(verb, 16)
+            if w >> 30 == 0 and 1 <= w <= 63:
+                steps.append(("reduce", w))
+            elif w >> 30 == 1 and w & 0x3FFFF000 == 0:
+                steps.append(("extend", w & 511, w >> 9 & 7))
+            else:
+                steps.append(("word", w))
+    return steps
+
+
+def step_word(step):
+    return step[1] if step[0] != "extend" else 1 << 30 | step[2] << 9 | step[1]
+
+
+def tableau(steps, sizes):
+    """For each step, and after the last, the leftmost leaf: (step that hung it, clause, literal, its ancestors, nearest first)."""
+    question = len(sizes) - 1
+    leaves, leftmost = [(0, question, j, []) for j in range(sizes[question])], []
+    for number, step in enumerate(steps, 1):
+        leaf = leaves.pop(0) if leaves else None
+        leftmost.append(leaf)
+        if leaf and step[0] == "extend" and step[1] < len(sizes):
+            hung = [(number, step[1], j, [leaf] + leaf[3]) for j in range(sizes[step[1]]) if j != step[2]]
+            leaves = hung + leaves
+    return leftmost + [leaves[0] if leaves else None]
+
+
+class Offered:
+    def __init__(self, path, proof):
+        self.path = path
+        text, self.file = question_file(path)
+        self.predicates, self.functions, self.clauses, self.atoms = names(text)
+        self.literals = [literals(own, self.predicates, self.functions) for own in clause_words(self.file)]
+        self.steps = steps_said(open(proof).read(), self.clauses)
+        self.leaves = tableau(self.steps, [len(c) for c in self.literals])
+        line = calls(f"check {LIMIT} 16384 4096 / {hexed(map(step_word, self.steps))} / {hexed(self.file)}")
+        self.told, (_, self.answer) = fields(line)
+
+    def reference(self, clause):
+        name = self.clauses[clause] if clause < len(self.clauses) else ""
+        return name if self.clauses.count(name) == 1 else str(clause)
+
+    def step(self, step):
+        if step[0] == "reduce":
+            return f"reduce {step[1]}"
+        return f"{step[1]:08X}" if step[0] == "word" else f"extend {self.reference(step[1])} {step[2]}"
+
+    def leaf(self, label, leaf):
+        if not leaf:
+            return f"{label}: there is none"
+        number, clause, literal = leaf[:3]
+        hung = f"by step {number}" if number else "at the start"
+        return f"{label}: {self.literals[clause][literal][0]}, literal {literal} of {self.clauses[clause]} (clause {clause}), hung {hung}"
+
+    def partner(self, place):
+        step, leaf = self.steps[place], self.leaves[place]
+        if step[0] == "reduce":
+            return leaf[3][step[1] - 1] if leaf and step[1] <= len(leaf[3]) else None
+        if step[0] == "extend" and step[1] < len(self.literals) and step[2] < len(self.literals[step[1]]):
+            return (place + 1, step[1], step[2])
+        return None
+
+    def reason(self, leaf, other):
+        if not leaf:
+            return "All leaves are closed already."
+        if not other:
+            return "There is no such clause, literal or ancestor."
+        (_, s, p, n), (_, t, q, m) = self.literals[leaf[1]][leaf[2]], self.literals[other[1]][other[2]]
+        if s == t or p != q or n != m:
+            return "The two literals do not fit: a pair has opposite signs, the same predicate and as many arguments."
+        return f"The limit is reached: {LIMIT} clauses may be used."
+
+    def wrong(self, place):
+        step, leaf, other = self.steps[place], self.leaves[place], self.partner(place)
+        fault = {
+            12: "is no step",
+            13: "is not possible",
+            14: "is a clash: under what is bound so far the two literals have different symbols in one place",
+            20: "is a circle: under what is bound so far a variable would stand for a term that holds it",
+        }[self.told["status"]]
+        label = {"reduce": "ancestor", "extend": "clause", "word": "literal"}[step[0]]
+        lines = [f"Not accepted: step {place + 1} {fault}", f"  {self.step(step)}", self.leaf("leaf", leaf), self.leaf(label, other)]
+        return lines + ([self.reason(leaf, other)] if self.told["status"] == 13 else [])
+
+    def checked(self):
+        if self.told["status"] == 15:
+            lines = [f"Not accepted: leaves are open after the last step, {len(self.steps)}; the leftmost:", self.leaf("leaf", self.leaves[-1])]
+        elif self.told["status"]:
+            lines = self.wrong(self.told["place"])
+        else:
+            disjuncts = answer_lines(self.answer, self.predicates, self.functions, self.atoms)
+            many = "a definite answer" if len(disjuncts) == 1 else f"an answer with {len(disjuncts)} alternatives, not definite"
+            lines = [f"Accepted: {many} (steps {len(self.steps)})"] + disjuncts + behind(map(step_word, self.steps), self.clauses)
+        return "\n".join(lines) + f"\n% SZS status {'Unknown' if self.told['status'] else 'Unsatisfiable'} for {self.path}\n"
+
+    def box(self, number, clause):
+        lines = [f"  subgraph cluster_{number} {{", f'    label="{self.clauses[clause]}";']
+        return lines + [f'    n{number}_{j} [label="{l[0]}"];' for j, l in enumerate(self.literals[clause])] + ["  }"]
+
+    def drawn(self):
+        lines = ["digraph tableau {", "  ordering=out;", "  node [shape=box];", "  edge [arrowhead=none];"] + self.box(0, len(self.clauses) - 1)
+        for place, step in enumerate(self.steps):
+            number, _, literal, branch = self.leaves[place]
+            if step[0] == "extend":
+                lines += self.box(place + 1, step[1])
+                for j in range(len(self.literals[step[1]])):
+                    lines.append(f"  n{number}_{literal} -> n{place + 1}_{j}{' [style=bold]' if j == step[2] else ''};")
+            else:
+                above = branch[step[1] - 1]
+                lines.append(f"  n{number}_{literal} -> n{above[0]}_{above[2]} [style=dashed, arrowhead=normal, constraint=false];")
+        return "\n".join(lines + ["}"]) + "\n"
+
+
+def answer_lines(answer, predicates, functions, atoms):
+    told = []
+    while answer:
+        literal, answer = shown(answer, predicates, functions)
+        told.append(literal)
+    disjuncts = [" & ".join(told[i:i + atoms]) for i in range(0, len(told), atoms)]
+    return disjuncts[:1] + ["or " + d for d in disjuncts[1:]]
+
+
+def behind(steps, clauses):
+    copies = {len(clauses) - 1: 1}
+    for step in steps:
+        if step >> 30 == 1:
+            copies[step & 511] = copies.get(step & 511, 0) + 1
+    return ["Clauses behind it, and how often each was used:"] + [f"  {clauses[number]} {copies[number]}" for number in sorted(copies)]
+
+
+def expected(path):
+    text, file = question_file(path)
+    told, (steps, answer) = fields(calls(f"smallest {LIMIT} {BUDGET} 16384 199 4096 / {hexed(file)}"))
     if told["status"] == 10:
         return (f"None up to {LIMIT}: no proof uses so few clauses; it looked everywhere, in {told['tries']} tries.\n"
                 "32 is the largest limit. Add the clause that is missing, or ask for less.\n"
                 f"% SZS status GaveUp for {path}\n")
     if told["status"] == 11:
         raise SystemExit(f"{path}: the example runs out")
-    predicates, functions, clauses, atoms = names(data.decode())
-    lines, literals = [], []
-    while answer:
-        literal, answer = shown(answer, predicates, functions)
-        literals.append(literal)
-    disjuncts = [" & ".join(literals[i:i + atoms]) for i in range(0, len(literals), atoms)]
+    predicates, functions, clauses, atoms = names(text)
+    lines, disjuncts = [], answer_lines(answer, predicates, functions, atoms)
     cost = f" (bound {told['bound']}, tries {told['tries']})"
     lines.append("Found: a definite answer" + cost if len(disjuncts) == 1 else f"Found: an answer with {len(disjuncts)} alternatives, not definite" + cost)
-    lines += [disjuncts[0]] + ["or " + d for d in disjuncts[1:]]
-    lines.append("Clauses behind it, and how often each was used:")
-    copies = {len(clauses) - 1: 1}
-    for step in steps:
-        if step >> 30 == 1:
-            copies[step & 511] = copies.get(step & 511, 0) + 1
-    lines += [f"  {clauses[number]} {copies[number]}" for number in sorted(copies)]
+    lines += disjuncts + behind(steps, clauses)
     lines.append(f"% SZS status Unsatisfiable for {path}")
     return "\n".join(lines) + "\n"
 
 
+def keep(kept, text):
+    if "--check" not in sys.argv:
+        open(kept, "w").write(text)
+    elif open(kept).read() != text:
+        raise SystemExit(f"{kept} differs from what is worked out")
+
+
+ENDED = {"definite": "found, a definite answer", "indefinite": "found, not definite", 10: "none within the limit", 11: "ran out, nothing is known yet",
+         16: "found, an answer too long to be shown"}
+SZS = {10: "GaveUp", 11: "ResourceOut"}
+
+# of each question that is refused, by its name: what is said
+QUESTIONS_REFUSED = {
+    "not_denied": """examples/matinee.questions:13: the question not_denied has a literal without `~`: all its literals must be denied
+% SZS status InputError for examples/matinee.questions:13
+""",
+    "slip": """examples/matinee.questions:14:49: the text goes wrong here
+  , negated_conjecture, ~ at(hamlet, may3 Time)).
+                                          ^
+expected arguments in parentheses, `,` or `)`
+% SZS status InputError for examples/matinee.questions:14
+""",
+    "a_bill": """examples/matinee.questions:15: there is no question: no clause has the role negated_conjecture
+% SZS status InputError for examples/matinee.questions:15
+""",
+}
+
+
+def season(name):
+    """The season report: each clause of NAME.questions in the place of the question of NAME.p."""
+    table, questions = f"examples/{name}.p", f"examples/{name}.questions"
+    stated = re.sub(r"cnf\s*\(\s*\w+\s*,\s*negated_conjecture\s*,[^.]*\.", "", open(table).read())
+    text, counts, tries, lines = open(questions).read(), {}, 0, ""
+    for found in re.finditer(r"cnf\s*\(\s*(\w+)[^.]*\.", re.sub(r"%[^\n]*", lambda m: " " * len(m.group()), text)):
+        asked, line = found.group(1), text[:found.start(1)].count("\n") + 1
+        if asked in QUESTIONS_REFUSED:
+            counts["refused"] = counts.get("refused", 0) + 1
+            lines += QUESTIONS_REFUSED[asked]
+            continue
+        read, (file,) = fields(calls(f"tptp-in 16000 / {(stated + found.group()).encode().hex().upper()}"))
+        assert read["status"] == 0, asked
+        told = fields(calls(f"smallest {LIMIT} {BUDGET} 16384 199 4096 / {' '.join(f'{w:08X}' for w in file)}"))[0]
+        result = told["status"] or ("definite" if told["disjuncts"] == 1 else "indefinite")
+        counts[result], tries = counts.get(result, 0) + 1, tries + told["tries"]
+        lines += f"{questions}:{line}: {asked}: {ENDED[result]} (tries {told['tries']})\n% SZS status {SZS.get(result, 'Unsatisfiable')} for {asked}\n"
+    return lines + f"""Season report of {table}, a question may use {LIMIT} clauses and {BUDGET} tries:
+  found, a definite answer: {counts.get('definite', 0)}
+  found, not definite: {counts.get('indefinite', 0)}
+  none within the limit: {counts.get(10, 0)}
+  ran out: {counts.get(11, 0)}
+  answer too long to be shown: {counts.get(16, 0)}
+  refused: {counts.get('refused', 0)}
+  tries in all: {tries}
+"""
+
+
+def desk():
+    """What the desk says of the records, for every day and house that has one and for one that has none."""
+    records = [line.split() for line in re.sub(r"%[^\n]*", "", open("examples/desk.records").read()).split("\n") if line.strip()]
+    asked = " ".join(f"{day}:{house}:{ {'matinee': 'm', 'evening': 'e', 'either': 'x'}[slot] }" for day, house, slot in records)
+    said = {(1, 0, 0): "matinee", (0, 1, 0): "evening", (1, 1, 0): "matinee and evening, two events",
+            (0, 0, 1): "matinee or evening, the bill leaves it open", (0, 0, 0): "not recorded"}
+    lines = ""
+    for day, house in sorted({(int(r[0]), int(r[1])) for r in records}) + [(95, 17)]:
+        told = fields(calls(f"desk 2000 2000 2000 {day} {house} / {asked}"))[0]
+        assert told["status"] == 0
+        lines += f"Day {day}, house {house}: {said[told['matinee'], told['evening'], told['either']]}\n"
+    return lines
+
+
 os.makedirs("examples/expected", exist_ok=True)
 for entry in sorted(os.listdir("examples")):
-    if not entry.endswith(".p"):
+    name, _, kind = entry.rpartition(".")
+    if kind == "p":
+        keep(f"examples/expected/{name}.out", REFUSALS.get(name) or expected(f"examples/{entry}"))
+    if kind == "questions":
+        keep(f"examples/expected/{name}.season", season(name))
+keep("examples/expected/desk.reports", desk())
+for entry in sorted(os.listdir("examples/proofs")):
+    name = entry[:-len(".proof")]
+    if name in REFUSALS:
+        keep(f"examples/expected/{name}.check", REFUSALS[name])
         continue
-    name, path = entry[:-2], f"examples/{entry}"
-    text, kept = REFUSALS.get(name) or expected(path), f"examples/expected/{name}.out"
-    if "--check" in sys.argv:
-        if open(kept).read() != text:
-            raise SystemExit(f"{kept} differs from what is worked out")
-    else:
-        open(kept, "w").write(text)
+    offered = Offered(f"examples/{name.split('-')[0]}.p", f"examples/proofs/{entry}")
+    keep(f"examples/expected/{name}.check", offered.checked())
+    if not offered.told["status"]:
+        keep(f"examples/expected/{name}.dot", offered.drawn())
+for picture in ("case1", "knights"):
+    keep(f"docs/pictures/{picture}.dot", open(f"examples/expected/{picture}-found.dot").read())

@@ -15,7 +15,7 @@ pub struct Options {
 pub fn usage() {
     io::write_all(
         STDERR_FILENO,
-        b"usage: hukolearu ask [--limit K] [--budget N] [--proof] FILE\n       hukolearu words FILE\n       hukolearu text FILE\n       hukolearu slim FILE\nK is 0 to 32 (else 32), N is 0 to 4294967295 (else 10000000). `man hukolearu` tells more.\n",
+        b"usage: hukolearu ask [--limit K] [--budget N] [--proof] FILE\n       hukolearu check [--limit K] FILE PROOF\n       hukolearu draw [--limit K] FILE PROOF\n       hukolearu words FILE\n       hukolearu text FILE\n       hukolearu slim FILE\n       hukolearu season [--limit K] [--budget N] FILE QUESTIONS\n       hukolearu desk RECORDS DAY HOUSE\nK is 0 to 32 (else 32), N is 0 to 4294967295 (else 10000000). `man hukolearu` tells more.\n",
     );
 }
 
@@ -25,7 +25,7 @@ pub fn is(i: usize, text: &[u8]) -> bool {
     piece::is(part::front_bytes(&space, n), 0, text)
 }
 
-fn number(i: usize) -> Number {
+pub fn number(i: usize) -> Number {
     let mut space = io::buffer();
     let n = os::arg(i, &mut space);
     piece::decimal(part::front_bytes(&space, n), 0, b'\n')
@@ -118,6 +118,17 @@ pub fn asked(files: usize) -> Options {
     }
 }
 
+// The options of a command that is given a file and a proof.
+pub fn offered() -> Options {
+    if following(b"--budget") != 0 {
+        return refused();
+    }
+    if following(b"--proof") != 0 {
+        return refused();
+    }
+    asked(2)
+}
+
 // The last argument, which names a file.
 pub fn last(space: &mut [u8]) -> usize {
     let count = os::arg_count();
@@ -125,4 +136,13 @@ pub fn last(space: &mut [u8]) -> usize {
         return 0;
     }
     os::arg(count - 1, space)
+}
+
+// The argument before the last so many.
+pub fn from_last(back: usize, space: &mut [u8]) -> usize {
+    let count = os::arg_count();
+    if count <= back {
+        return 0;
+    }
+    os::arg(count - 1 - back, space)
 }

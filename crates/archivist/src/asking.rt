@@ -23,26 +23,26 @@ use tptp::TextRead;
 use words::fields;
 use words::fields::wide;
 
-fn proof_buffer() -> [u32; 199]
+pub fn proof_buffer() -> [u32; 199]
     ensures { λ r. ⌜ 199 ≡ length r ⌝ }
 {
     [0; 199]
 }
 
-fn answer_buffer() -> [u32; 4096]
+pub fn answer_buffer() -> [u32; 4096]
     ensures { λ r. ⌜ 4096 ≡ length r ⌝ }
 {
     [0; 4096]
 }
 
-fn index_buffer() -> [u32; 16896]
+pub fn index_buffer() -> [u32; 16896]
     ensures { λ r. ⌜ 16896 ≡ length r ⌝ }
 {
     [0; 16896]
 }
 
 // Room for what is written; a longer text is cut.
-fn page() -> [u8; 262144]
+pub fn page() -> [u8; 262144]
     ensures { λ r. ⌜ 262144 ≡ length r ⌝ }
 {
     [0; 262144]
@@ -56,7 +56,7 @@ fn questions(text: &[u8]) -> usize {
     }
 }
 
-fn write(fd: i32, page: &[u8], n: usize) {
+pub fn write(fd: i32, page: &[u8], n: usize) {
     io::write_all(fd, part::front_bytes(page, n));
     if page.len() < n {
         io::write_all(fd, b" ...\n");
@@ -85,7 +85,7 @@ pub fn refuse(fd: i32, name: &[u8], text: &[u8], read: TextRead) {
     write(fd, &out, n);
 }
 
-fn status_line(name: &[u8], status: &[u8]) {
+pub fn status_line(name: &[u8], status: &[u8]) {
     let mut out = page();
     let n = result::szs(&mut out, 0, status, name);
     write(STDOUT_FILENO, &out, n);
@@ -214,7 +214,7 @@ fn behind_lines(text: &[u8], index: &[u32], listing: &[u8]) {
 }
 
 // The clauses behind the answer by their own names, each with how often it was used.
-fn tell_behind(text: &[u8], index: &[u32], file: &[u32], bound: u32, steps: &[u32]) {
+pub fn tell_behind(text: &[u8], index: &[u32], file: &[u32], bound: u32, steps: &[u32]) {
     let mut listing = listing_buffer();
     let mut work = files::file_buffer();
     let listed = listing::call::listing(file, bound, steps, &mut listing, &mut work);
@@ -226,7 +226,7 @@ fn tell_behind(text: &[u8], index: &[u32], file: &[u32], bound: u32, steps: &[u3
 }
 
 // The literals of the question.
-fn atoms(file: &[u32]) -> usize {
+pub fn atoms(file: &[u32]) -> usize {
     let question = lookup_question(file);
     if question.len() == 0 {
         return 0;
@@ -234,7 +234,7 @@ fn atoms(file: &[u32]) -> usize {
     wide(fields::literals(question[0]))
 }
 
-fn lookup_question(file: &[u32]) -> &[u32] {
+pub fn lookup_question(file: &[u32]) -> &[u32] {
     if file.len() < 4 {
         return part::front(file, 0);
     }
@@ -246,7 +246,7 @@ fn lookup_question(file: &[u32]) -> &[u32] {
 }
 
 // The answer in names, which has at most 4,096 words.
-fn show_answer(
+pub fn show_answer(
     text: &[u8],
     index: &[u32],
     atoms: usize,

@@ -22,7 +22,7 @@ use Rattle.names.specs.Noting.{nameAt}
 use Rattle.assistant.specs.declared.place.Position.{Position}
 use Rattle.assistant.specs.Place.{positionOf, figureText, shownLine, shownBefore, aroundText, markText, excerptText}
 use Rattle.assistant.specs.Expected.{symbolText, endedText, wantedText, owedText, expectedText}
-use Rattle.assistant.specs.Refusals.{headText, hopeText, longText, wrongAtText, wrongText, questionName, twiceText, unaskedText, positiveText, overText}
+use Rattle.assistant.specs.Refusals.{headText, hopeText, longText, locatedText, wrongInText, wrongText, questionName, twiceText, unaskedText, positiveText, overText}
 use Rattle.assistant.specs.Results.{costText, foundText, tooLongText, largerText, noneText, ranOutText, szsText, behindText}
 
 module _ {o₀ o₁ : List ℕ} {n₀ n₁ : ℕ} where
@@ -148,7 +148,7 @@ module _ {o₀ o₁ : List ℕ} {n₀ n₁ : ℕ} where
   unfolding wrongText
   wrong-long name text place h p = rw (lt-ltb 65536 (length text) h) p
 
-  pub wrong-short : (name text : List ℕ) (place : ℕ) → length text ≤ 65536 → Put o₀ n₀ (wrongAtText name text place) o₁ n₁ → Put o₀ n₀ (wrongText name text place) o₁ n₁
+  pub wrong-short : (name text : List ℕ) (place : ℕ) → length text ≤ 65536 → Put o₀ n₀ (wrongInText name text 0 place) o₁ n₁ → Put o₀ n₀ (wrongText name text place) o₁ n₁
   unfolding wrongText
   wrong-short name text place h p = rw (le-ltb 65536 (length text) h) p
 
@@ -185,6 +185,17 @@ module _ {o₀ o₁ : List ℕ} {n₀ n₁ : ℕ} where
     unfolding excerptText
     excerpt-is before rest column e p q = then (rw e at p) (rw e at q)
 
+    pub located-is : (name text : List ℕ) (place : ℕ) {before rest : List ℕ} → before ≡ take place text → rest ≡ drop place text
+        → {p : Position} → p ≡ positionOf before → Put o₀ n₀ (headText name p) o₁ n₁ → Put o₁ n₁ (excerptText before rest (p .column)) o₂ n₂
+        → Put o₀ n₀ (locatedText name text place) o₂ n₂
+    unfolding locatedText
+    located-is name text place eb er ep p q = then (rw (ep, eb) at p) (rw (ep, eb, er) at q)
+
+    pub wrong-in-is : (name text : List ℕ) (from place : ℕ) {own : List ℕ} → own ≡ drop from text → {s : State} → s ≡ stuckIn start own
+        → Put o₀ n₀ (locatedText name text place) o₁ n₁ → Put o₁ n₁ (hopeText s) o₂ n₂ → Put o₀ n₀ (wrongInText name text from place) o₂ n₂
+    unfolding wrongInText
+    wrong-in-is name text from place eo es p q = then p (rw (es, eo) at q)
+
     pub over-is : (name : List ℕ) → Put o₀ n₀ name o₁ n₁
         → Put o₁ n₁ (bytes ": the table is over a limit: 512 clauses, 16000 words in all, 4096 predicates, 4096 functions; a clause 7 literals, 16 variables, 255 words; 4 arguments\n") o₂ n₂
         → Put o₀ n₀ (overText name) o₂ n₂
@@ -197,13 +208,6 @@ module _ {o₀ o₁ : List ℕ} {n₀ n₁ : ℕ} where
           → Put o₀ n₀ (hopeText s) o₃ n₃
       unfolding hopeText
       hope-is s p q r = then p (then q r)
-
-      pub wrong-at-is : (name text : List ℕ) (place : ℕ) {before rest : List ℕ} → before ≡ take place text → rest ≡ drop place text
-          → {p : Position} → p ≡ positionOf before → {s : State} → s ≡ stuckIn start text
-          → Put o₀ n₀ (headText name p) o₁ n₁ → Put o₁ n₁ (excerptText before rest (p .column)) o₂ n₂ → Put o₂ n₂ (hopeText s) o₃ n₃
-          → Put o₀ n₀ (wrongAtText name text place) o₃ n₃
-      unfolding wrongAtText
-      wrong-at-is name text place eb er ep es p q r = then (rw (ep, eb) at p) (then (rw (ep, eb, er) at q) (rw es at r))
 
       pub cost-is : (bound tries : ℕ) → Put o₀ n₀ (bytes " (bound " ++ decimalText bound) o₁ n₁ → Put o₁ n₁ (bytes ", tries " ++ decimalText tries) o₂ n₂
           → Put o₂ n₂ (bytes ")\n") o₃ n₃ → Put o₀ n₀ (costText bound tries) o₃ n₃

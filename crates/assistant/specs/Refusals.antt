@@ -26,13 +26,16 @@ hopeText s = bytes "expected " ++ (expectedText (s .want) (s .mode) ++ bytes "\n
 unfoldable pub longText : List ℕ → List ℕ
 longText name = name ++ bytes ": the text is longer than 65536 bytes\n"
 
-unfoldable pub wrongAtText : List ℕ → List ℕ → ℕ → List ℕ
-wrongAtText name text place =
-    headText name (positionOf (take place text))
-    ++ (excerptText (take place text) (drop place text) (positionOf (take place text) .column) ++ hopeText (stuckIn start text))
+unfoldable pub locatedText : List ℕ → List ℕ → ℕ → List ℕ
+locatedText name text place =
+    headText name (positionOf (take place text)) ++ excerptText (take place text) (drop place text) (positionOf (take place text) .column)
+
+-- of clause text that begins at a place of a longer text
+unfoldable pub wrongInText : List ℕ → List ℕ → ℕ → ℕ → List ℕ
+wrongInText name text from place = locatedText name text place ++ hopeText (stuckIn start (drop from text))
 
 unfoldable pub wrongText : List ℕ → List ℕ → ℕ → List ℕ
-wrongText name text place = cond (ltb 65536 (length text)) (longText name) (wrongAtText name text place)
+wrongText name text place = cond (ltb 65536 (length text)) (longText name) (wrongInText name text 0 place)
 
 -- 18: no question, or two
 abbrev pub questionName : List ℕ → ℕ → List ℕ

@@ -82,7 +82,7 @@ fn mark(out: &mut [u8], at: usize, back: usize) -> usize
 }
 
 // The bytes around the place after some bytes, and a mark below it.
-pub(crate) fn excerpt(out: &mut [u8], at: usize, before: &[u8], rest: &[u8], column: usize) -> usize
+pub fn excerpt(out: &mut [u8], at: usize, before: &[u8], rest: &[u8], column: usize) -> usize
     requires { ⌜ (1 ≤ column) × (column ≤ length (now before) + 1) ⌝ }
     ensures { λ r. ⌜ Put (now (out .entry)) at (excerptText (now (before .entry)) (now (rest .entry)) column) (now (out .exit)) r ⌝ }
 {

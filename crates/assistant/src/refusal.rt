@@ -3,7 +3,7 @@ ghost use mathlib.Core.Path.{_≡_};
 ghost use mathlib.Core.List.{_++_};
 ghost use Rattle.text.specs.Put.{Put};
 ghost use Rattle.names.specs.Noting.{nameAt};
-ghost use Rattle.assistant.specs.Refusals.{headText, hopeText, longText, wrongAtText, wrongText, questionName, twiceText, unaskedText, positiveText, overText};
+ghost use Rattle.assistant.specs.Refusals.{headText, hopeText, longText, locatedText, wrongInText, wrongText, questionName, twiceText, unaskedText, positiveText, overText};
 use crate::excerpt;
 use crate::expected;
 use crate::place;
@@ -41,16 +41,32 @@ fn long(out: &mut [u8], at: usize, name: &[u8]) -> usize
     put::bytes(out, a, b": the text is longer than 65536 bytes\n")
 }
 
-fn wrong_at(out: &mut [u8], at: usize, name: &[u8], text: &[u8], place: usize) -> usize
-    ensures { λ r. ⌜ Put (now (out .entry)) at (wrongAtText (now (name .entry)) (now (text .entry)) place) (now (out .exit)) r ⌝ }
+// Where a text goes wrong: file, line and column, the bytes around the place and a mark below it.
+pub fn located(out: &mut [u8], at: usize, name: &[u8], text: &[u8], place: usize) -> usize
+    ensures { λ r. ⌜ Put (now (out .entry)) at (locatedText (now (name .entry)) (now (text .entry)) place) (now (out .exit)) r ⌝ }
 {
     let before = part::front_bytes(text, place);
     let rest = place::after(text, place);
     let p = place::locate(before);
     let column = p.column;
     let a = head(out, at, name, p);
-    let b = excerpt::excerpt(out, a, before, rest, column);
-    hope(out, b, stuck::stuck_in(text))
+    excerpt::excerpt(out, a, before, rest, column)
+}
+
+// The same of a text that begins at a place of a longer one, and what was expected.
+pub fn wrong_in(
+    out: &mut [u8],
+    at: usize,
+    name: &[u8],
+    text: &[u8],
+    from: usize,
+    place: usize,
+) -> usize
+    ensures { λ r. ⌜ Put (now (out .entry)) at (wrongInText (now (name .entry)) (now (text .entry)) from place) (now (out .exit)) r ⌝ }
+{
+    let own = place::after(text, from);
+    let a = located(out, at, name, text, place);
+    hope(out, a, stuck::stuck_in(own))
 }
 
 // 17: where the text goes wrong, and what was expected.
@@ -60,7 +76,7 @@ pub fn wrong(out: &mut [u8], at: usize, name: &[u8], text: &[u8], place: usize) 
     if 65536 < text.len() {
         return long(out, at, name);
     }
-    wrong_at(out, at, name, text, place)
+    wrong_in(out, at, name, text, 0, place)
 }
 
 // The name that begins at a place.

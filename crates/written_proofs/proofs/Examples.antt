@@ -11,6 +11,7 @@ use Rattle.text.specs.Quoted.{bytes}
 use Rattle.text.specs.Digits.{digitsOf, significant}
 use Rattle.written_proofs.specs.Steps.{begins, stands, onlyFrom, tells, clauseText, stepText, stepsText}
 use Rattle.written_proofs.specs.Reading.{piece, piecesFrom, numberSaid, clauseSaid, stepMade, clauseMade, verbTurn, turn, complete, reads, readProof}
+use Rattle.written_proofs.specs.declared.read.Awaited.the-variants.{Step as step, Height, Clause, Literal}
 
 unfoldable opened : Unit {0}
 unfolding stepOf encoded wellFormed stepWord digitOf upTo valueFrom numberOf wordOf sameBytes digitsOf significant begins stands onlyFrom tells clauseText stepText stepsText piece piecesFrom numberSaid clauseSaid stepMade clauseMade verbTurn turn complete reads readProof
@@ -25,27 +26,27 @@ unfolding opened
 written = refl
 
 -- a unique name's number is read too, and hexadecimal words, on one line or more
-read : readProof names (bytes "extend 0 0 40000202\r\n  reduce 1") ≡ record { words = 0x40000000 ∷ 0x40000202 ∷ 1 ∷ []; whole = true; place = 31 }
+read : readProof names (bytes "extend 0 0 40000202\r\n  reduce 1") ≡ record { words = 0x40000000 ∷ 0x40000202 ∷ 1 ∷ []; whole = true; place = 31; awaits = step }
 unfolding opened
 read = refl
 
 -- a name that stands twice tells no clause; no height is over 63; a text may not end within a step; other words are no steps
-twice : readProof names (bytes "reduce 1 extend bill 0") ≡ record { words = 1 ∷ []; whole = false; place = 16 }
+twice : readProof names (bytes "reduce 1 extend bill 0") ≡ record { words = 1 ∷ []; whole = false; place = 16; awaits = Clause }
 unfolding opened
 twice = refl
 
-too-high : readProof names (bytes "reduce 64") ≡ record { words = []; whole = false; place = 7 }
+too-high : readProof names (bytes "reduce 64") ≡ record { words = []; whole = false; place = 7; awaits = Height }
 unfolding opened
 too-high = refl
 
-cut-off : readProof names (bytes "extend q") ≡ record { words = []; whole = false; place = 8 }
+cut-off : readProof names (bytes "extend q") ≡ record { words = []; whole = false; place = 8; awaits = Literal 3 }
 unfolding opened
 cut-off = refl
 
-no-verb : readProof names (bytes "close 1") ≡ record { words = []; whole = false; place = 0 }
+no-verb : readProof names (bytes "close 1") ≡ record { words = []; whole = false; place = 0; awaits = step }
 unfolding opened
 no-verb = refl
 
-nothing : readProof names [] ≡ record { words = []; whole = true; place = 0 }
+nothing : readProof names [] ≡ record { words = []; whole = true; place = 0; awaits = step }
 unfolding opened
 nothing = refl

@@ -197,21 +197,23 @@ pub record Going (ns : List Name) (said first out : List ℕ) (used at : ℕ) (a
   pub within : at ≤ length said
   pub whole : readProof ns said .whole ≡ reads ns (length said) a (piecesFrom at false (drop at said)) .whole
   pub place : readProof ns said .place ≡ reads ns (length said) a (piecesFrom at false (drop at said)) .place
+  pub awaits : readProof ns said .awaits ≡ reads ns (length said) a (piecesFrom at false (drop at said)) .awaits
   pub words : Left first 0 (readProof ns said .words) out used (reads ns (length said) a (piecesFrom at false (drop at said)) .words)
 
 pub go-begin : (ns : List Name) (said first : List ℕ) → Going ns said first first 0 0 step
 unfolding readProof
-go-begin ns said first = record { within = omega arith; whole = refl; place = refl; words = begin first 0 (readProof ns said .words) }
+go-begin ns said first = record { within = omega arith; whole = refl; place = refl; awaits = refl; words = begin first 0 (readProof ns said .words) }
 
 module _ {ns : List Name} {said first out : List ℕ} {used at : ℕ} {a : Awaited} (g : Going ns said first out used at a) where
   pub go-over : length said ≤ at → {b : Bool} → b ≡ complete a
-      → Told (readProof ns said) first out (record { whole = b; place = at; steps = used })
+      → Told (readProof ns said) first out (record { whole = b; place = at; awaited = a; steps = used })
   unfolding reads piecesFrom
   go-over h e =
       let d = drop-of-length-le said h in
       record {
         whole = e ∙ sym (rw d at (g .whole));
         place = let z : at ≡ length said = omega (arith, g .within) in z ∙ sym (rw d at (g .place));
+        awaits = sym (rw d at (g .awaits));
         words = finish (rw d at (g .words));
       }
 
@@ -220,7 +222,7 @@ module _ {ns : List Name} {said first out : List ℕ} {used at : ℕ} {a : Await
     unfolding piecesFrom
     go-blank k =
         let e : piecesFrom at false (drop at said) ≡ piecesFrom (at + 1) false (drop (at + 1) said) = rw (from-place said at h, le-leb (getD said at 0) 32 k, add-one) in
-        record { within = omega arith; whole = rw e at (g .whole); place = rw e at (g .place); words = rw e at (g .words) }
+        record { within = omega arith; whole = rw e at (g .whole); place = rw e at (g .place); awaits = rw e at (g .awaits); words = rw e at (g .words) }
 
     module _ (k : 32 < getD said at 0) {end : ℕ} (ee : end ≡ at + length (piece (drop at said))) where
       here : piecesFrom at false (drop at said) ≡ record { at = at; own = piece (drop at said) } ∷ piecesFrom end false (drop end said)
@@ -254,24 +256,24 @@ module _ {ns : List Name} {said first out : List ℕ} {used at : ℕ} {a : Await
         turned : t ≡ turn ns a (piece (drop at said))
         turned = et ∙ ap (λ (p : List ℕ). turn ns a p) own-is
 
-        pub go-wrong : t ≡ Wrong → Told (readProof ns said) first out (record { whole = false; place = at; steps = used })
+        pub go-wrong : t ≡ Wrong → Told (readProof ns said) first out (record { whole = false; place = at; awaited = a; steps = used })
         unfolding reads
         go-wrong w =
-            let e : reads ns (length said) a (piecesFrom at false (drop at said)) ≡ record { words = []; whole = false; place = at } = rw (here, ← turned, w) in
-            record { whole = sym (rw e at (g .whole)); place = sym (rw e at (g .place)); words = finish (rw e at (g .words)) }
+            let e : reads ns (length said) a (piecesFrom at false (drop at said)) ≡ record { words = []; whole = false; place = at; awaits = a } = rw (here, ← turned, w) in
+            record { whole = sym (rw e at (g .whole)); place = sym (rw e at (g .place)); awaits = sym (rw e at (g .awaits)); words = finish (rw e at (g .words)) }
 
         pub go-awaits : {b : Awaited} → t ≡ Awaits b → Going ns said first out used end b
         unfolding reads
         go-awaits {b} w =
             let e : reads ns (length said) a (piecesFrom at false (drop at said)) ≡ reads ns (length said) b (piecesFrom end false (drop end said)) = rw (here, ← turned, w) in
-            record { within = go-within; whole = rw e at (g .whole); place = rw e at (g .place); words = rw e at (g .words) }
+            record { within = go-within; whole = rw e at (g .whole); place = rw e at (g .place); awaits = rw e at (g .awaits); words = rw e at (g .words) }
 
         pub go-makes : {w : ℕ} → t ≡ Makes w → {out' : List ℕ} {used' : ℕ} → Put out used (w ∷ []) out' used' → Going ns said first out' used' end step
         unfolding reads
         go-makes {w} m p =
             let r = reads ns (length said) step (piecesFrom end false (drop end said)) in
-            let e : reads ns (length said) a (piecesFrom at false (drop at said)) ≡ record { words = w ∷ r .words; whole = r .whole; place = r .place } = rw (here, ← turned, m) in
-            record { within = go-within; whole = rw e at (g .whole); place = rw e at (g .place); words = further (w ∷ []) (r .words) (rw e at (g .words)) p }
+            let e : reads ns (length said) a (piecesFrom at false (drop at said)) ≡ record { words = w ∷ r .words; whole = r .whole; place = r .place; awaits = r .awaits } = rw (here, ← turned, m) in
+            record { within = go-within; whole = rw e at (g .whole); place = rw e at (g .place); awaits = rw e at (g .awaits); words = further (w ∷ []) (r .words) (rw e at (g .words)) p }
 
 pub ruleset go-laws = (go-begin, go-over, go-blank, go-part, go-within, go-less, go-wrong, go-awaits, go-makes)
 

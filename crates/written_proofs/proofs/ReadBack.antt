@@ -161,6 +161,7 @@ pub record Goes (ns : List Name) (end at w : ℕ) (text rest : List ℕ) : Type 
         words = w ∷ reads ns end step (piecesFrom next false rest) .words;
         whole = reads ns end step (piecesFrom next false rest) .whole;
         place = reads ns end step (piecesFrom next false rest) .place;
+        awaits = reads ns end step (piecesFrom next false rest) .awaits;
       }
 
 hex-some : (w : ℕ) → some-bytes (hexText w) ≡ true
@@ -270,7 +271,7 @@ module _ (ns : List Name) (end at w : ℕ) (rest : List ℕ) (h : w < 2 ^ 32) wh
       go Malformed e = goes-word
 
 all-read : (ns : List Name) → ((k : ℕ) → solid (nameOf ns k) ≡ true) → (end at : ℕ) (ws : List ℕ) → Words ws
-    → reads ns end step (piecesFrom at false (stepsText ns ws)) ≡ record { words = ws; whole = true; place = end }
+    → reads ns end step (piecesFrom at false (stepsText ns ws)) ≡ record { words = ws; whole = true; place = end; awaits = step }
 unfolding stepsText reads piecesFrom complete Each
 all-read ns solids end at [] h = refl
 all-read ns solids end at (w ∷ ws) h =

@@ -77,11 +77,12 @@ turn ns Height p = stepMade (Reduction (numberSaid p))
 turn ns Clause p = clauseMade (clauseSaid ns p)
 turn ns (Literal i) p = stepMade (Extension i (numberSaid p))
 
--- what was read: the steps' words; whether that is all; and the place where the text goes wrong, or its end
+-- what was read: the steps' words; whether that is all; the place where the text goes wrong, or its end; and what was awaited there
 pub record Read : Type 0 where
   pub words : List ℕ
   pub whole : Bool
   pub place : ℕ
+  pub awaits : Awaited
 
 -- a text may end where a step is awaited
 unfoldable pub complete : Awaited → Bool
@@ -90,20 +91,20 @@ complete Height = false
 complete Clause = false
 complete (Literal i) = false
 
-abbrev pub wrongAt : ℕ → Read
-wrongAt place = record { words = []; whole = false; place = place }
+abbrev pub wrongAt : ℕ → Awaited → Read
+wrongAt place a = record { words = []; whole = false; place = place; awaits = a }
 
 abbrev pub after : ℕ → Read → Read
-after w r = record { words = w ∷ r .words; whole = r .whole; place = r .place }
+after w r = record { words = w ∷ r .words; whole = r .whole; place = r .place; awaits = r .awaits }
 
-abbrev pub went : ℕ → Turn → (Awaited → Read) → Read
-went at (Awaits a) goes = goes a
-went at (Makes w) goes = after w (goes step)
-went at Wrong goes = wrongAt at
+abbrev pub went : ℕ → Awaited → Turn → (Awaited → Read) → Read
+went at a (Awaits b) goes = goes b
+went at a (Makes w) goes = after w (goes step)
+went at a Wrong goes = wrongAt at a
 
 unfoldable pub reads : List Name → (end : ℕ) → Awaited → List Piece → Read
-reads ns end a [] = record { words = []; whole = complete a; place = end }
-reads ns end a (p ∷ ps) = went (p .at) (turn ns a (p .own)) (λ b. reads ns end b ps)
+reads ns end a [] = record { words = []; whole = complete a; place = end; awaits = a }
+reads ns end a (p ∷ ps) = went (p .at) a (turn ns a (p .own)) (λ b. reads ns end b ps)
 
 unfoldable pub readProof : List Name → List ℕ → Read
 readProof ns said = reads ns (length said) step (piecesFrom 0 false said)
@@ -112,4 +113,5 @@ readProof ns said = reads ns (length said) step (piecesFrom 0 false said)
 pub record Told (read : Read) (steps left : List ℕ) (r : Reading) : Type 0 where
   pub whole : r .whole ≡ read .whole
   pub place : r .place ≡ read .place
+  pub awaits : r .awaited ≡ read .awaits
   pub words : Put steps 0 (read .words) left (r .steps)

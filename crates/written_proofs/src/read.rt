@@ -31,10 +31,11 @@ pub enum Turn {
     Wrong,
 }
 
-// Whether all was read; else the place where it goes wrong. And how many steps were read.
+// Whether all was read; else the place where it goes wrong. What was awaited there, and how many steps were read.
 pub struct Reading {
     pub whole: bool,
     pub place: usize,
+    pub awaited: Awaited,
     pub steps: usize,
 }
 
@@ -162,6 +163,7 @@ fn pieces(text: &[u8], places: &[u32], said: &[u8], steps: &mut [u32]) -> Readin
                 return Reading {
                     whole: false,
                     place: at,
+                    awaited,
                     steps: used,
                 };
             }
@@ -170,6 +172,7 @@ fn pieces(text: &[u8], places: &[u32], said: &[u8], steps: &mut [u32]) -> Readin
     Reading {
         whole: complete(awaited),
         place: at,
+        awaited,
         steps: used,
     }
 }

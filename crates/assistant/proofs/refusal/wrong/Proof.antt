@@ -14,8 +14,8 @@ same-length c = search needs
 returns : tie.Need-returns
 returns c = search all
 
-wrong-at-requires : tie.Need-wrong-at-requires
-wrong-at-requires c κs = search needs
+wrong-in-requires : tie.Need-wrong-in-requires
+wrong-in-requires c κs = search needs
 
 same-length-2 : tie.Need-same-length-2
 same-length-2 c = search needs
@@ -26,4 +26,4 @@ returns-2 c = search all
 pub wrong-spec : {M : Type 1} → statement M
 wrong-spec =
     tie.close
-    (tie.spec long-requires same-length returns wrong-at-requires same-length-2 returns-2)
+    (tie.spec long-requires same-length returns wrong-in-requires same-length-2 returns-2)

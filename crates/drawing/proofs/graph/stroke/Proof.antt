@@ -1,0 +1,43 @@
+use borrow.Author.Needs.{needs}
+use Rattle.drawing.proofs.Graphs.{stroke-laws}
+use Rattle.drawing.proofs.graph.stroke.Statement.{statement}
+use Rattle.drawing.proofs.graph.stroke.Tie as tie
+
+ruleset all = (needs, stroke-laws)
+
+slice-aggregate-bytes : tie.Need-slice-aggregate-bytes
+slice-aggregate-bytes c = search all
+
+bytes-requires : tie.Need-bytes-requires
+bytes-requires c κs = search all
+
+same-length : tie.Need-same-length
+same-length c = search all
+
+returns : tie.Need-returns
+returns c = search all
+
+slice-aggregate-bytes-2 : tie.Need-slice-aggregate-bytes-2
+slice-aggregate-bytes-2 c = search all
+
+bytes-requires-2 : tie.Need-bytes-requires-2
+bytes-requires-2 c κs = search all
+
+same-length-2 : tie.Need-same-length-2
+same-length-2 c = search all
+
+returns-2 : tie.Need-returns-2
+returns-2 c = search all
+
+pub stroke-spec : {M : Type 1} → statement M
+stroke-spec =
+    tie.close
+    (tie.spec
+    slice-aggregate-bytes
+    bytes-requires
+    same-length
+    returns
+    slice-aggregate-bytes-2
+    bytes-requires-2
+    same-length-2
+    returns-2)

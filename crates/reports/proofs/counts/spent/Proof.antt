@@ -1,0 +1,17 @@
+use borrow.Author.Needs.{needs}
+use Rattle.reports.proofs.Counting.{count-laws}
+use Rattle.reports.proofs.counts.spent.Statement.{statement}
+use Rattle.reports.proofs.counts.spent.Tie as tie
+
+ruleset all = (needs, count-laws)
+
+pub spent-spec : {M : Type 1} → statement M
+spent-spec =
+    tie.close
+    (tie.spec
+    (λ c. search needs)
+    (λ c κs. search needs)
+    (λ c. search needs)
+    (λ c κs. search needs)
+    (λ c. search needs)
+    (λ c. search all))
