@@ -1,5 +1,5 @@
 //! The proved engine, its own text compiled by rustc, and the Rust engine written to be fast with and without bounds checks, side by side.
-//! `timing texts` puts reading clause text beside Rust; `timing call SIDE QUESTION` makes one call, for counting its instructions; `timing questions` lists the questions;
+//! `timing texts` puts reading clause text beside Rust; `timing call SIDE QUESTION` makes one call, for counting its instructions; `timing questions` and `timing sides` list them;
 //! `timing export DIRECTORY` writes each question as input of document 01's program, for measuring other builds by the same.
 
 mod clock;
@@ -7,6 +7,7 @@ mod sides;
 mod texts;
 mod workloads;
 
+use hukolearu::Outcome;
 use sides::{Lent, SIDES, Side};
 use std::io::Write;
 use std::time::Duration;
@@ -20,10 +21,11 @@ fn main() -> std::io::Result<()> {
     match arguments.iter().map(String::as_str).collect::<Vec<_>>().as_slice() {
         [] => show_all(),
         ["texts"] => texts::show(),
+        ["sides"] => SIDES.iter().for_each(|side| println!("{}", side.name)),
         ["questions"] => workloads::all().iter().for_each(|workload| println!("{}", workload.name)),
         ["call", side, question] => call_once(side, question),
         ["export", directory] => export(directory)?,
-        _ => eprintln!("usage: timing [texts | questions | call SIDE QUESTION | export DIRECTORY]"),
+        _ => eprintln!("usage: timing [texts | sides | questions | call SIDE QUESTION | export DIRECTORY]"),
     }
     Ok(())
 }
@@ -40,33 +42,37 @@ fn show_all() {
 }
 
 fn show(title: &str, workloads: &[Workload]) {
-    let names = SIDES.map(|side| side.name);
+    let names: Vec<&str> = SIDES.iter().map(|side| side.name).collect();
     println!("\n| {title} | tries | {} | / {} |", names.join(" | "), names[1..].join(" | / "));
     println!("{}|", "|---".repeat(1 + 2 * SIDES.len()));
     for workload in workloads {
         let tries = agreed_tries(workload);
         let times = best_times(workload);
-        let speeds = times.map(|time| speed(time, tries)).join(" | ");
-        let ratios = times.map(|rust| format!("{:.2}", times[0].as_secs_f64() / rust.as_secs_f64()));
-        println!("| {} | {tries} | {speeds} | {} |", workload.name, ratios[1..].join(" | "));
+        let speeds: Vec<String> = times.iter().map(|time| speed(*time, tries)).collect();
+        let ratios: Vec<String> =
+            times[1..].iter().map(|other| format!("{:.2}", times[0].as_secs_f64() / other.as_secs_f64())).collect();
+        println!("| {} | {tries} | {} | {} |", workload.name, speeds.join(" | "), ratios.join(" | "));
     }
 }
 
 /// All sides give the same numbers and leave the same words in every buffer.
 fn agreed_tries(workload: &Workload) -> u32 {
-    let results = SIDES.map(|side| {
-        let mut lent = Lent::new();
-        (side.call(workload, &mut lent), lent)
-    });
+    let results: Vec<(Outcome, Lent)> = SIDES
+        .iter()
+        .map(|side| {
+            let mut lent = Lent::new();
+            (side.call(workload, &mut lent), lent)
+        })
+        .collect();
     assert!(results.iter().all(|result| *result == results[0]), "{}: the sides differ", workload.name);
     results[0].0.tries
 }
 
 /// The best of some rounds of each side, a call.
-fn best_times(workload: &Workload) -> [Duration; SIDES.len()] {
+fn best_times(workload: &Workload) -> Vec<Duration> {
     let mut lent = Lent::new();
-    let calls = SIDES.map(|side| calls_a_round(side, workload, &mut lent));
-    let mut best = [Duration::MAX; SIDES.len()];
+    let calls: Vec<u32> = SIDES.iter().map(|side| calls_a_round(*side, workload, &mut lent)).collect();
+    let mut best = vec![Duration::MAX; SIDES.len()];
     for _ in 0..ROUNDS {
         for (number, side) in SIDES.iter().enumerate() {
             best[number] = best[number].min(time_of(*side, workload, calls[number], &mut lent) / calls[number]);

@@ -34,57 +34,62 @@ impl Side {
     }
 }
 
-pub const SIDES: [Side; 4] = [
+pub const SIDES: &[Side] = &[
     Side { name: "proved", search: proved },
+    #[cfg(feature = "before")]
+    Side { name: "before", search: before },
     Side { name: "transcribed", search: transcribed },
     Side { name: "checked", search: checked },
     Side { name: "unchecked", search: unchecked },
 ];
 
-mod archive {
-    use hukolearu::Outcome;
-
-    unsafe extern "C" {
-        /// As in the header, but for the place of the result, which x86-64 passes first: the engine's module has it so, and where the
-        /// module is compiled for another processor the call must say so itself.
-        pub fn hukolearu_search(
-            outcome: *mut Outcome,
-            file: *const u32,
-            file_words: usize,
-            bound: u32,
-            budget: u32,
-            proof: *mut u32,
-            proof_words: usize,
-            answer: *mut u32,
-            answer_words: usize,
-            work: *mut u32,
-            work_words: usize,
-        ) -> *mut Outcome;
-    }
+/// A side that is an archive's call, as in the header but for the place of the result, which x86-64 passes first: the engine's module has it so,
+/// and where the module is compiled for another processor the call must say so itself.
+macro_rules! archived {
+    ($side:ident, $symbol:ident) => {
+        fn $side(workload: &Workload, lent: &mut Lent) -> Outcome {
+            unsafe extern "C" {
+                fn $symbol(
+                    outcome: *mut Outcome,
+                    file: *const u32,
+                    file_words: usize,
+                    bound: u32,
+                    budget: u32,
+                    proof: *mut u32,
+                    proof_words: usize,
+                    answer: *mut u32,
+                    answer_words: usize,
+                    work: *mut u32,
+                    work_words: usize,
+                ) -> *mut Outcome;
+            }
+            let Workload { file, bound, budget, .. } = workload;
+            let Lent { work, proof, answer } = lent;
+            let mut outcome = Outcome { status: 0, place: 0, proof: 0, disjuncts: 0, answer: 0, tries: 0 };
+            // SAFETY: the slices are valid for their lengths and do not overlap, and the call reads and writes within them (proved).
+            unsafe {
+                $symbol(
+                    &mut outcome,
+                    file.as_ptr(),
+                    file.len(),
+                    *bound,
+                    *budget,
+                    proof.as_mut_ptr(),
+                    proof.len(),
+                    answer.as_mut_ptr(),
+                    answer.len(),
+                    work.as_mut_ptr(),
+                    work.len(),
+                );
+            }
+            outcome
+        }
+    };
 }
 
-fn proved(workload: &Workload, lent: &mut Lent) -> Outcome {
-    let Workload { file, bound, budget, .. } = workload;
-    let Lent { work, proof, answer } = lent;
-    let mut outcome = Outcome { status: 0, place: 0, proof: 0, disjuncts: 0, answer: 0, tries: 0 };
-    // SAFETY: the slices are valid for their lengths and do not overlap, and the call reads and writes within them (proved).
-    unsafe {
-        archive::hukolearu_search(
-            &mut outcome,
-            file.as_ptr(),
-            file.len(),
-            *bound,
-            *budget,
-            proof.as_mut_ptr(),
-            proof.len(),
-            answer.as_mut_ptr(),
-            answer.len(),
-            work.as_mut_ptr(),
-            work.len(),
-        );
-    }
-    outcome
-}
+archived!(proved, hukolearu_search);
+#[cfg(feature = "before")]
+archived!(before, before_search);
 
 /// The proved engine's own text, compiled by rustc.
 fn transcribed(workload: &Workload, lent: &mut Lent) -> Outcome {
