@@ -22,7 +22,7 @@ use Rattle.rules.specs.Tableau.{Leaf, Tableau, atom, fits, ancestor, closing, c
 use Rattle.rules.specs.Machinery.Unify.{Unified, made, unify}
 use Rattle.rules.specs.Machinery.Play.{Play, boundBy, newest, closesPair, performed, perform}
 use Rattle.rules.proofs.Steps.{reduces, extends, restarts, MayExtend, MayRestart, done, afterEntry}
-use Rattle.unification.specs.State.{startAt, copiesOf, nextAt, ownWords, ClauseAt, wordsAt, literalAtReference, bound}
+use Rattle.unification.specs.State.{startAt, copiesOf, nextAt, ownWords, ClauseAt, wordsAt, literalAtReference, bindingsIn}
 use Rattle.unification.specs.Good.{wordAt, Inside, LiteralStands, Good, Outcome}
 use Rattle.tableaux.specs.Leaves.{chain, leafAt, leavesFrom, questionsAmong}
 use Rattle.tableaux.specs.Ready.{openLeaves, Ready, Stands, Alike, restOf, Reduced, Hung, OneMore, Extended, Restarted}
@@ -35,9 +35,10 @@ use Rattle.tableaux.specs.declared.tableau.Taken.{Taken}
 use Rattle.unification.specs.declared.unify.Meeting.{Meeting}
 use Rattle.unification.specs.declared.unify.Meeting.the-variants.{Made, Clash, Circle}
 use Rattle.tableaux.proofs.Chains.{chain-at, chain-past}
-use Rattle.engine.proofs.Fitting.{fits-by-word, other-word}
-use Rattle.engine.proofs.Sound.{Sound, literal, sound-word, nothing-owed, owing-arity}
-use Rattle.engine.proofs.Places.{place-word, place-inside}
+use Rattle.tableaux.proofs.Leaves.{questions-same}
+use Rattle.engine.proofs.Literals.Fitting.{fits-by-word, other-word}
+use Rattle.engine.proofs.Literals.Sound.{Sound, literal, sound-word, nothing-owed, owing-arity}
+use Rattle.engine.proofs.Literals.Places.{place-word, place-inside}
 use Rattle.tableaux.proofs.Hanging.{own-inside, own-word}
 use Rattle.tableaux.proofs.Literals.{copy-all, copy-entered, copy-others}
 
@@ -63,12 +64,6 @@ module _ {f m : List ℕ} {place : Place} (ready : Ready f m place) (some-open :
       chain-first (leafAt f m) (nextAt m) (place .leaves) (place .head) some-open (ready .head)
       (ready .noted .right (place .head - 1) (omega (arith, ready .head)))
 
--- copies of the question, where the copies stay
-pub questions-same : (m m′ : List ℕ) (question n : ℕ) → ((c : ℕ) → c < n → startAt m′ c ≡ startAt m c) → questionsAmong m′ question n ≡ questionsAmong m question n
-unfolding questionsAmong
-questions-same m m′ question zero s = refl
-questions-same m m′ question (suc n) s = rw (s n (omega arith), questions-same m m′ question n (λ c l. s c (omega arith)))
-
 -- the newest pair decides
 module _ (S : Setting) (p : Play) (s : Step) where
   pub performs : {y : Tableau} (l n : Literal Variable) → closesPair s ≡ true → stepped S (p .tableau) s ≡ some y → y .pairs ≡ closing l n ∷ p .tableau .pairs
@@ -77,9 +72,9 @@ module _ (S : Setting) (p : Play) (s : Step) where
   performs l n c e h = rw (c, e, h)
 
 comes : (f m : List ℕ) (question : ℕ) (place : Place) (meeting : Meeting) (u : Unified) → Outcome f m meeting u → (y : Tableau)
-    → (meeting ≡ Made → Stands f m question place y (bound f m)) → Comes f m question place meeting (boundBy y u)
+    → (meeting ≡ Made → Stands f m question place y (bindingsIn f m)) → Comes f m question place meeting (boundBy y u)
 unfolding boundBy
-comes f m question place Made u o y s = rw o (record { tableau = y; bindings = bound f m }, refl, s refl)
+comes f m question place Made u o y s = rw o (record { tableau = y; bindings = bindingsIn f m }, refl, s refl)
 comes f m question place Clash u o y s = rw o
 comes f m question place Circle u o y s = rw o
 
@@ -184,7 +179,7 @@ module _ (S : Setting) {f m m′ : List ℕ} {question : ℕ} {place : Place} {o
     abbrev after : Tableau
     after = afterReduction (p .tableau) leaf (leavesFrom f m (place .leaves) (restOf m place)) (literalAtReference f m other)
 
-    reduction-stands : Stands f m′ question (r .place) after (bound f m′)
+    reduction-stands : Stands f m′ question (r .place) after (bindingsIn f m′)
     reduction-stands =
         record {
           leaves = sym (reduced .leaves);
@@ -231,7 +226,7 @@ module _ (S : Setting) {f m m′ : List ℕ} {question : ℕ} {place : Place} {s
     unfolding questionsWith
     asked = rw (copies-asked (extended .copied) question, enters .asks)
 
-    extension-stands : Hung f m m′ place (r .place) (scan .start) (scan .at - scan .start) → Stands f m′ question (r .place) grown (bound f m′)
+    extension-stands : Hung f m m′ place (r .place) (scan .start) (scan .at - scan .start) → Stands f m′ question (r .place) grown (bindingsIn f m′)
     extension-stands hung =
         record {
           leaves =

@@ -12,7 +12,8 @@ use Rattle.rules.specs.Setting.{profileOf, readStep, readSteps}
 use Rattle.rules.specs.Comparison.{a-clash, a-circle}
 use Rattle.rules.specs.Verdict.{Refusal, malformed, not-allowed, not-unified, statusOf}
 use Rattle.rules.specs.Machinery.Play.{Play, Performed, goes-on, not-possible, clashes, circular, perform, refusal, passed, stopped, check}
-use Rattle.unification.specs.State.{markAt, literalAt, parentAt}
+use Rattle.unification.specs.Places.{mostVariables}
+use Rattle.unification.specs.State.{numberedAt, literalAt, parentAt}
 use Rattle.tableaux.specs.Leaves.{chain, leafAt}
 use Rattle.tableaux.specs.Ready.{Ready, Stands, NotesKept}
 use Rattle.index.specs.Noting.{Indexed}
@@ -60,7 +61,7 @@ NotedFor bound f m = 0 < bound → Indexed f (length f - 4) m
 pub record Moved (f m m′ : List ℕ) (place next : Place) : Type 0 where
   pub ready : Ready f m′ next
   pub steps : next .steps ≡ place .steps + 1
-  pub marks : (v : ℕ) → v < 528 → markAt m′ v ≡ markAt m v
+  pub marks : (v : ℕ) → v < mostVariables → numberedAt m′ v ≡ numberedAt m v
   pub notes : NotesKept m m′
 
 abbrev pub Moves : List ℕ → List ℕ → List ℕ → Place → Judged → Type 0

@@ -1,5 +1,3 @@
-pub mod Writing
-pub mod Repeats
 pub mod Performing
 pub mod Ended
 pub mod Checking

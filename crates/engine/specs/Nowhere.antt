@@ -11,7 +11,7 @@ use Rattle.rules.specs.Substitution.{Variable}
 use Rattle.rules.specs.Machinery.Play.{Play, plays}
 use Rattle.rules.specs.Machinery.Run.{no-way, one}
 use Rattle.rules.specs.Machinery.Unify.{follow}
-use Rattle.unification.specs.State.{literalAt, parentAt, termOf, bound}
+use Rattle.unification.specs.State.{literalAt, parentAt, termOf, bindingsIn}
 use Rattle.unification.specs.Good.{wordAt}
 use Rattle.index.specs.Scanning.{otherSign}
 use Rattle.tableaux.specs.Leaves.{chain}
@@ -50,7 +50,7 @@ clashing symbol w = eqb (kindOf symbol) 1 && (eqb (kindOf w) 1 && not (eqb w sym
 pub record Opens (f m : List ℕ) (literal w : ℕ) : Type 0 where
   pub some : 0 < arityOf (wordAt f m literal)
   pub arguments : Terms Variable
-  pub followed : follow (bound f m) (termOf f m (literal + 1)) ≡ app (symbolOf w) arguments
+  pub followed : follow (bindingsIn f m) (termOf f m (literal + 1)) ≡ app (symbolOf w) arguments
   pub count : arity arguments ≡ arityOf w
   pub shaped : functionShaped w ≡ true
   pub small : w < 2 ^ 32

@@ -19,9 +19,10 @@ use Rattle.rules.specs.Machinery.Play.{Play, passed, perform, checkFrom, plays,
 use Rattle.rules.specs.Machinery.Run.{Result, way, no-way, ran-out, search, one, row}
 use Rattle.rules.specs.Tableau.{Leaf, ancestor}
 use Rattle.rules.specs.Verdict.{finds-none, runs-out}
+use Rattle.unification.specs.Places.{mostVariables, stepPlaces, copiesPlace}
 use Rattle.engine.specs.Ended.{settingFor}
 use Rattle.engine.specs.Ended as ended
-use Rattle.unification.specs.State.{copiesOf, countOf, stepAt, markAt, literalAtReference, bound}
+use Rattle.unification.specs.State.{copiesOf, countOf, stepAt, numberedAt, literalAtReference, bindingsIn}
 use Rattle.unification.specs.Good.{wordAt, LiteralStands, Good, Undone}
 use Rattle.tableaux.specs.Leaves.{leafAt, questionsAmong}
 use Rattle.tableaux.specs.Ready.{openLeaves, Ready, Stands, Later, leafOf}
@@ -121,7 +122,7 @@ pub record Takes (f m m′ : List ℕ) (task : Task) (place : Place) (candidate 
 pub record Restored (f m m′ : List ℕ) (count copies : ℕ) : Type 0 where
   pub between : List ℕ
   pub undone : Undone f m between count
-  pub exit : m′ ≡ set between 33 copies
+  pub exit : m′ ≡ set between copiesPlace copies
 
 -- all is again as it was at an earlier moment, at a place
 pub record Again (f m m′ : List ℕ) (place : Place) : Type 0 where
@@ -138,17 +139,17 @@ without ending left = record { ending = ending; left = left; steps = 0 }
 pub record Noting (f m m′ : List ℕ) (place : Place) (r : Searched) : Type 0 where
   pub good : Good f m′
   pub earlier : (i : ℕ) → i < place .steps → stepAt m′ i ≡ stepAt m i
-  pub marks : (v : ℕ) → v < 528 → markAt m′ v ≡ markAt m v
+  pub marks : (v : ℕ) → v < mostVariables → numberedAt m′ v ≡ numberedAt m v
 
 pub record Finds (f m′ : List ℕ) (task : Task) (place : Place) (r : Searched) (p : Play) (result : Result Step) : Type 0 where
   pub path : List Step
   pub play : Play
   pub says : result ≡ way path (r .left)
   pub passes : (at : ℕ) → checkFrom (settingAt f task) p at path ≡ passed play
-  pub bindings : play .bindings ≡ bound f m′
+  pub bindings : play .bindings ≡ bindingsIn f m′
   pub questions : play .tableau .questions ≡ questionsAmong m′ (questionAt f task) (copiesOf m′)
   pub count : r .steps ≡ place .steps + length path
-  pub noted : take (length path) (drop (1984 + place .steps) m′) ≡ map stepWord path
+  pub noted : take (length path) (drop (stepPlaces + place .steps) m′) ≡ map stepWord path
 
 -- how the work words are left, and what the rules say, by how a search ended
 abbrev pub Leaves : Ending → List ℕ → List ℕ → List ℕ → Place → Searched → Type 0

@@ -16,6 +16,7 @@ ghost use mathlib.Core.Path.{_≡_};
 ghost use Prim.Native.Nat.{ℕ, _-_, _≤_, _<_};
 ghost use lib.ListN.{length, getElem?};
 ghost use Rattle.table.specs.File.{judge};
+ghost use Rattle.unification.specs.Places.{mostLeaves, workWords};
 ghost use Rattle.unification.specs.Good.{wordAt};
 ghost use Rattle.tableaux.specs.Ready.{Ready, leafOf};
 ghost use Rattle.index.specs.Scanning.{otherSign};
@@ -56,7 +57,7 @@ pub enum Verdict {
 
 // The ancestor at a height: 1 is the parent.
 fn ancestor(work: &[u32], head: u32, height: u32) -> Above
-    requires { ⌜ (length (now work) ≡ 16384) × (0 < head) × (head ≤ 231) × Upward (now work) head ⌝ }
+    requires { ⌜ (length (now work) ≡ workWords) × (0 < head) × (head ≤ mostLeaves) × Upward (now work) head ⌝ }
     ensures { λ r. ⌜ r ≡ aboveOf (getElem? (lineage (now (work .entry)) head) height) ⌝ }
 {
     let mut at = head;
@@ -120,7 +121,7 @@ fn body_of(file: &[u32]) -> u32
 
 // The literals of the body are noted, unless nothing may be extended.
 fn prepare(file: &[u32], work: &mut [u32], bound: u32)
-    requires { ⌜ (length (now work) ≡ 16384) × (judge (now file) .status ≡ 0) ⌝ }
+    requires { ⌜ (length (now work) ≡ workWords) × (judge (now file) .status ≡ 0) ⌝ }
     ensures { λ _. ⌜ NotedFor bound (now (file .entry)) (now (work .exit)) ⌝ }
 {
     if bound == 0 {
@@ -237,7 +238,7 @@ pub fn run(
     conditions: Conditions,
     offered: &[u32],
 ) -> Verdict
-    requires { ⌜ (length (now work) ≡ 16384) × (judge (now file) .status ≡ 0) × (question ≡ judge (now file) .question) × (conditions .bound ≤ 32) ⌝ }
+    requires { ⌜ (length (now work) ≡ workWords) × (judge (now file) .status ≡ 0) × (question ≡ judge (now file) .question) × (conditions .bound ≤ 32) ⌝ }
     ensures { λ r. ⌜ Decided (now (file .entry)) (now (work .exit)) question conditions (now (offered .entry)) r ⌝ }
 {
     prepare(file, work, conditions.bound);

@@ -1,7 +1,5 @@
-// Search, checker and answer on lent words.
-pub mod answer;
+// Search and checker on lent words.
 pub mod check;
-pub mod once;
 mod profile;
 pub mod search;
 mod vain;

@@ -20,6 +20,7 @@ ghost use mathlib.Core.List.{List};
 ghost use mathlib.Core.Path.{_≡_};
 ghost use Prim.Native.Nat.{ℕ, _≤_, _<_, _-_};
 ghost use lib.ListN.{length, take};
+ghost use Rattle.unification.specs.Places.{workWords};
 ghost use Rattle.index.specs.Noting.{Few, Linked};
 ghost use Rattle.table.specs.File.{judge};
 ghost use Rattle.unification.specs.State.{copiesOf, countOf};
@@ -263,7 +264,7 @@ fn treat(file: &[u32], work: &mut [u32], task: Task, place: Place, left: u32) ->
 
 // The literals of the body are noted and linked, unless nothing may be extended.
 fn prepare(file: &[u32], work: &mut [u32], body: u32, bound: u32)
-    requires { ⌜ (length (now work) ≡ 16384) × (body ≤ length (now file)) × (body ≤ 16000) × Few (take body (now file)) ⌝ }
+    requires { ⌜ (length (now work) ≡ workWords) × (body ≤ length (now file)) × (body ≤ 16000) × Few (take body (now file)) ⌝ }
     ensures { λ _. ⌜ (0 < bound → Linked (now (file .entry)) body (now (work .exit)) 0) ⌝ }
 {
     if bound == 0 {
@@ -281,7 +282,7 @@ pub fn find(
     conditions: Conditions,
     budget: u32,
 ) -> Searched
-    requires { ⌜ (length (now work) ≡ 16384) × (judge (now file) .status ≡ 0) × (question ≡ judge (now file) .question) × (conditions .bound ≤ 32) ⌝ }
+    requires { ⌜ (length (now work) ≡ workWords) × (judge (now file) .status ≡ 0) × (question ≡ judge (now file) .question) × (conditions .bound ≤ 32) ⌝ }
     ensures { λ r. ⌜ Ends (r .ending) (now (file .entry)) (now (work .exit)) question conditions budget r ⌝ }
 {
     let body = (file.len() - 4) as u32;

@@ -9,13 +9,14 @@ ghost use mathlib.Core.Path.{_≡_};
 ghost use Prim.Native.Nat.{_+_, _≤_, _<_};
 ghost use lib.ListN.{length, getD};
 ghost use Rattle.words.specs.Fields.{kindOf};
+ghost use Rattle.unification.specs.Places.{mostLeaves};
 ghost use Rattle.unification.specs.Good.{Good, LiteralStands};
 ghost use Rattle.tableaux.specs.Ready.{Noted, Extensible, hangingAt};
 ghost use Rattle.engine.specs.Nowhere.{wordsUp, among, stuckAt, deadEnd, clashing, Opening};
 
 // Whether a literal with a word stands on a branch, from a leaf up.
 fn on_branch(file: &[u32], work: &[u32], head: u32, word: u32) -> bool
-    requires { ⌜ Good (now file) (now work) × Noted (now file) (now work) head × (head ≤ 231) ⌝ }
+    requires { ⌜ Good (now file) (now work) × Noted (now file) (now work) head × (head ≤ mostLeaves) ⌝ }
     ensures { λ r. ⌜ r ≡ among word (wordsUp (now (file .entry)) (now (work .entry)) head) ⌝ }
 {
     let mut at = head;
@@ -30,7 +31,7 @@ fn on_branch(file: &[u32], work: &[u32], head: u32, word: u32) -> bool
 
 // Whether a leaf is open and no ancestor's literal fits it.
 fn stuck(file: &[u32], work: &[u32], head: u32) -> bool
-    requires { ⌜ Good (now file) (now work) × Noted (now file) (now work) head × (head ≤ 231) ⌝ }
+    requires { ⌜ Good (now file) (now work) × Noted (now file) (now work) head × (head ≤ mostLeaves) ⌝ }
     ensures { λ r. ⌜ r ≡ stuckAt (now (file .entry)) (now (work .entry)) head ⌝ }
 {
     if head == 0 {

@@ -16,11 +16,12 @@ use Rattle.rules.specs.Substitution.{Variable}
 use Rattle.table.specs.Syntax.{Literal}
 use Rattle.rules.specs.Machinery.Play.{Play, check, searchFor, disjunctsOf}
 use Rattle.rules.specs.Machinery.Play as Play
+use Rattle.unification.specs.Places.{mostLeaves, stepPlaces, numberPlaces, workWords}
 use Rattle.hukolearu.specs.Calls.{Given, refused, granted, roomOf, answered, checkGiven, foundGiven, searchGiven, refusedBy, SearchAsked, inputsBy, searchBy, searchCall, CheckAsked, checkInputs, checkBy, checkCall, atFront}
 use Rattle.engine.specs.Ended.{settingFor, Ended}
 use Rattle.engine.specs.declared.Conditions.{Conditions}
-use Rattle.engine.specs.Writing.{wordsOf, disjunctsKept, answerHeld, Counted, Answered}
-use Rattle.engine.specs.Repeats.{disjunctsHeld, Chose}
+use Rattle.answers.specs.Writing.{wordsOf, disjunctsKept, answerHeld, Counted, Answered}
+use Rattle.answers.specs.Repeats.{disjunctsHeld, Chose}
 use Rattle.engine.specs.Searching.{Ends}
 use Rattle.engine.specs.Checking.{RefusedAs, Decided}
 use Rattle.hukolearu.specs.Enums.{byEnding, byVerdict, byRoom}
@@ -31,9 +32,9 @@ use Rattle.engine.specs.declared.check.Verdict.the-variants.{Accepted, Refused}
 use Rattle.engine.specs.declared.search.Searched.{Searched}
 use Rattle.engine.specs.declared.search.Ending.{Ending}
 use Rattle.engine.specs.declared.search.Ending.the-variants.{Found as AFound, Nothing, Out}
-use Rattle.engine.specs.declared.answer.Answer.{Answer}
-use Rattle.engine.specs.declared.answer.Room.{Room}
-use Rattle.engine.specs.declared.answer.Room.the-variants.{Left, Over}
+use Rattle.answers.specs.declared.answer.Answer.{Answer}
+use Rattle.answers.specs.declared.answer.Room.{Room}
+use Rattle.answers.specs.declared.answer.Room.the-variants.{Left, Over}
 use Rattle.hukolearu.specs.Door.{Admitted, entryOf}
 use Rattle.hukolearu.specs.declared.door.Entry.{Entry}
 use Rattle.hukolearu.specs.declared.door.Entry.the-variants.{Open as OpenDoor, Refused as RefusedAtDoor}
@@ -74,7 +75,7 @@ module _ (f : List ℕ) (judged : judge f .status ≡ 0) {question : ℕ} (asked
     held-answered steps proof tries room = rw (← same-answer, ← same-count)
 
 -- no profile has longer proofs than these
-longest-of-all : (restarts : Bool) → longestProof (profileOf restarts) ≤ 231
+longest-of-all : (restarts : Bool) → longestProof (profileOf restarts) ≤ mostLeaves
 longest-of-all false = omega arith
 longest-of-all true = omega arith
 
@@ -97,7 +98,7 @@ module _ (f m : List ℕ) (question : ℕ) (conditions : Conditions) (budget : �
   pub found-left : ended .ending ≡ AFound → ended .left ≤ budget
   found-left e = as-ended e .within
 
-  pub found-few : ended .ending ≡ AFound → ended .steps ≤ 231
+  pub found-few : ended .ending ≡ AFound → ended .steps ≤ mostLeaves
   found-few e = omega (arith, as-ended e .few, longest-of-all (conditions .restarts))
 
   pub found-room : {room : ℕ} → longestProof (profileOf (conditions .restarts)) ≤ room → ended .ending ≡ AFound → ended .steps ≤ room
@@ -117,23 +118,23 @@ module _ (f m : List ℕ) (question : ℕ) (conditions : Conditions) (budget : �
 
   pub found-given : {m₀ : List ℕ} (room : ℕ) → Passed f m₀ question (conditions .bound) → ended .ending ≡ AFound
       → searchGiven (settingFor f conditions) room (searchFor (settingFor f conditions) budget)
-      ≡ held f m question (ended .steps) (take (ended .steps) (drop 1984 m)) (budget - ended .left) room
+      ≡ held f m question (ended .steps) (take (ended .steps) (drop stepPlaces m)) (budget - ended .left) room
   unfolding searchGiven foundGiven
   found-given room p e =
       let x = as-ended e in
       rw (x .says, x .passes, ← x .count, ← x .noted)
-      (held-answered f (p .judged) (p .asked) (x .ended) (ended .steps) (take (ended .steps) (drop 1984 m)) (budget - ended .left) room)
+      (held-answered f (p .judged) (p .asked) (x .ended) (ended .steps) (take (ended .steps) (drop stepPlaces m)) (budget - ended .left) room)
 
   -- by the enum's own definition
   pub search-by-ending : {m₀ : List ℕ} (room : ℕ) → Passed f m₀ question (conditions .bound)
       → searchGiven (settingFor f conditions) room (searchFor (settingFor f conditions) budget)
       ≡ byEnding (ended .ending) budget (ended .left)
-      (held f m question (ended .steps) (take (ended .steps) (drop 1984 m)) (budget - ended .left) room)
+      (held f m question (ended .steps) (take (ended .steps) (drop stepPlaces m)) (budget - ended .left) room)
   search-by-ending room p = go (ended .ending) refl
     where
       go : (e : Ending) → ended .ending ≡ e
           → searchGiven (settingFor f conditions) room (searchFor (settingFor f conditions) budget)
-          ≡ byEnding e budget (ended .left) (held f m question (ended .steps) (take (ended .steps) (drop 1984 m)) (budget - ended .left) room)
+          ≡ byEnding e budget (ended .left) (held f m question (ended .steps) (take (ended .steps) (drop stepPlaces m)) (budget - ended .left) room)
       go AFound e = found-given room p e
       go Nothing e = nothing-given room e
       go Out e = out-given room e
@@ -199,18 +200,18 @@ module _ {f m m′ : List ℕ} {question room : ℕ} {fits : Bool} (h : Fits f m
   fit-told steps tries words proof n t e = rw (held-fitting steps words tries n) (record { numbers = t .numbers; steps = e; words = t .words })
 
   -- the steps stand where they stood
-  pub found-told : {r : Outcome} (steps tries : ℕ) (proof : List ℕ) {proof′ answer answer′ : List ℕ} → Answerable f m → steps ≤ 231 → not fits ≡ false
+  pub found-told : {r : Outcome} (steps tries : ℕ) (proof : List ℕ) {proof′ answer answer′ : List ℕ} → Answerable f m → steps ≤ mostLeaves → not fits ≡ false
       → Told (granted steps [] (length (disjunctsKept f m′)) (answerHeld f m′) tries) r [] [] answer answer′
-      → proof′ ≡ atFront (take steps (drop 1984 m′)) proof → Told (held f m question steps (take steps (drop 1984 m)) tries room) r proof proof′ answer answer′
+      → proof′ ≡ atFront (take steps (drop stepPlaces m′)) proof → Told (held f m question steps (take steps (drop stepPlaces m)) tries room) r proof proof′ answer answer′
   found-told steps tries proof a few n t e =
       let same =
-      part-same steps 1984 m m′ (omega (arith, a .good .size)) (h .chose .good .size ∙ sym (a .good .size))
+      part-same steps stepPlaces m m′ (omega (arith, a .good .size)) (h .chose .good .size ∙ sym (a .good .size))
       (λ i b c. h .chose .leaves .words i (omega arith) (omega arith)) in
-      fit-told steps tries (take steps (drop 1984 m)) proof n t (e ∙ ap (λ (ws : List ℕ). atFront ws proof) same)
+      fit-told steps tries (take steps (drop stepPlaces m)) proof n t (e ∙ ap (λ (ws : List ℕ). atFront ws proof) same)
 
   pub chosen-answerable : Answerable f m → Answerable f m′
   chosen-answerable a =
-      record { good = h .chose .good; unmarked = λ v l. h .chose .leaves .words (2240 + v) (omega arith) (omega arith) ∙ a .unmarked v l }
+      record { good = h .chose .good; unmarked = λ v l. h .chose .leaves .words (numberPlaces + v) (omega arith) (omega arith) ∙ a .unmarked v l }
 
 pub fit-writable : {f m m′ : List ℕ} {question : ℕ} (a : List ℕ) {fits : Bool} → Fits f m m′ question (length a) fits → not fits ≡ false
     → Answerable f m → Writable f m′ a
@@ -257,8 +258,8 @@ pub ruleset answer-laws = (refuses, held-over, fit-told, fit-writable, wrote-tol
 
 -- the work past the door
 pub all-passed : {f : List ℕ} {i : Inputs} (w : List ℕ) {question : ℕ} → Admitted f i → question ≡ judge f .question → i .work ≡ length w
-    → Passed f (take 16384 w) question (i .bound)
-all-passed w a asked enough = record { room = length-take-le 16384 w (omega arith); judged = a .good-file; asked = asked; low = a .low-bound }
+    → Passed f (take workWords w) question (i .bound)
+all-passed w a asked enough = record { room = length-take-le workWords w (omega arith); judged = a .good-file; asked = asked; low = a .low-bound }
 
 -- what a call tells by what it learns at the door, by any profile's rules
 module _ (rules : Profile) (a : SearchAsked) {entry : Entry} (says : entry ≡ entryOf (a .file) (inputsBy rules a)) where

@@ -17,8 +17,8 @@ use Rattle.table.specs.declared.Judgement.{Judgement}
 use Rattle.table.proofs.Accepted.{accepted}
 use Rattle.table.proofs.AcceptedTable.{body-readable, question-start}
 use Rattle.unification.specs.State.{ownWords, ClauseAt}
-use Rattle.engine.proofs.Places.{question-placed}
-use Rattle.hukolearu.specs.Door.{Fault, Check, refusedIf, firstFault, checks, behind, Admitted, entryBy, entryOf, workAfter}
+use Rattle.engine.proofs.Literals.Places.{question-placed}
+use Rattle.hukolearu.specs.Door.{Fault, Check, refusedIf, firstFault, checks, behind, Admitted, entryBy, entryOf, workAfter, leastWork}
 use Rattle.hukolearu.specs.declared.door.Entry.{Entry}
 use Rattle.hukolearu.specs.declared.door.Entry.the-variants.{Open, Refused}
 use Rattle.hukolearu.specs.declared.door.Inputs.{Inputs}
@@ -37,30 +37,30 @@ small-question f {j} e z =
 
 -- check by check
 module _ (f : List ℕ) (i : Inputs) where
-  pub little-work : i .work < 16384 → Refused 1 0 ≡ entryOf f i
+  pub little-work : i .work < leastWork → Refused 1 0 ≡ entryOf f i
   unfolding firstFault
-  little-work w = rw (lt-ltb (i .work) 16384 w)
+  little-work w = rw (lt-ltb (i .work) leastWork w)
 
-  module _ (work : 16384 ≤ i .work) where
+  module _ (work : leastWork ≤ i .work) where
     pub little-proof : i .proof < i .least → Refused 2 0 ≡ entryOf f i
     unfolding firstFault
-    little-proof p = rw (le-ltb (i .work) 16384 work, lt-ltb (i .proof) (i .least) p)
+    little-proof p = rw (le-ltb (i .work) leastWork work, lt-ltb (i .proof) (i .least) p)
 
     module _ (proof : i .least ≤ i .proof) where
       pub high-bound : 32 < i .bound → Refused 3 0 ≡ entryOf f i
       unfolding firstFault
-      high-bound h = rw (le-ltb (i .work) 16384 work, le-ltb (i .proof) (i .least) proof, lt-ltb 32 (i .bound) h)
+      high-bound h = rw (le-ltb (i .work) leastWork work, le-ltb (i .proof) (i .least) proof, lt-ltb 32 (i .bound) h)
 
       module _ (low : i .bound ≤ 32) {j : Judgement} (judged : j ≡ judge f) where
         pub bad-file : (j .status ≡ 0 → ⊥) → Refused (j .status) (j .place) ≡ entryOf f i
         unfolding firstFault
-        bad-file n = rw (le-ltb (i .work) 16384 work, le-ltb (i .proof) (i .least) proof, le-ltb 32 (i .bound) low, ← judged, ne-eqb (j .status) 0 n)
+        bad-file n = rw (le-ltb (i .work) leastWork work, le-ltb (i .proof) (i .least) proof, le-ltb 32 (i .bound) low, ← judged, ne-eqb (j .status) 0 n)
 
         pub good-file : j .status ≡ 0 → Open (j .question) ≡ entryOf f i
         unfolding firstFault
         good-file z =
             let same : judge f .status ≡ 0 = cc in
-            rw (le-ltb (i .work) 16384 work, le-ltb (i .proof) (i .least) proof, le-ltb 32 (i .bound) low, eq-eqb (judge f .status) 0 same)
+            rw (le-ltb (i .work) leastWork work, le-ltb (i .proof) (i .least) proof, le-ltb 32 (i .bound) low, eq-eqb (judge f .status) 0 same)
             (ap (λ (k : Judgement). Open (k .question)) judged)
 
 pub ruleset enter-laws = (little-work, little-proof, high-bound, bad-file, good-file)
@@ -102,7 +102,7 @@ module _ (f : List ℕ) (i : Inputs) where
   pub admitted : Admitted f i → firstFault (checks f i) ≡ none
   unfolding firstFault
   admitted a =
-      rw (le-ltb (i .work) 16384 (a .enough-work), le-ltb (i .proof) (i .least) (a .enough-proof), le-ltb 32 (i .bound) (a .low-bound), eq-eqb (judge f .status) 0 (a .good-file))
+      rw (le-ltb (i .work) leastWork (a .enough-work), le-ltb (i .proof) (i .least) (a .enough-proof), le-ltb 32 (i .bound) (a .low-bound), eq-eqb (judge f .status) 0 (a .good-file))
 
   pub passed : firstFault (checks f i) ≡ none → Admitted f i
   passed e =
@@ -110,7 +110,7 @@ module _ (f : List ℕ) (i : Inputs) where
       let e₃ = rest-passes _ _ e₂ in
       let e₄ = rest-passes _ _ e₃ in
       record {
-        enough-work = ltb-false (i .work) 16384 (not-refused _ _ (first-passes _ _ e));
+        enough-work = ltb-false (i .work) leastWork (not-refused _ _ (first-passes _ _ e));
         enough-proof = ltb-false (i .proof) (i .least) (not-refused _ _ (first-passes _ _ e₂));
         low-bound = ltb-false 32 (i .bound) (not-refused _ _ (first-passes _ _ e₃));
         good-file = eqb-true (judge f .status) 0 (right-file _ _ (first-passes _ _ e₄));
@@ -151,19 +151,19 @@ unfolding behind
 inside {f = f} {i} a refuse given = rw (admitted f i a)
 
 -- the work words: untouched where they are too few, else zero at the front, whatever their front was while the call ran
-pub work-untouched : (w : List ℕ) → length w < 16384 → w ≡ workAfter w
+pub work-untouched : (w : List ℕ) → length w < leastWork → w ≡ workAfter w
 unfolding workAfter
-work-untouched w h = rw (lt-ltb (length w) 16384 h)
+work-untouched w h = rw (lt-ltb (length w) leastWork h)
 
-pub work-cleared : (w : List ℕ) {w′ : List ℕ} → 16384 ≤ length w → w′ ≡ replicate 16384 0 ++ drop 16384 w → w′ ≡ workAfter w
+pub work-cleared : (w : List ℕ) {w′ : List ℕ} → leastWork ≤ length w → w′ ≡ replicate leastWork 0 ++ drop leastWork w → w′ ≡ workAfter w
 unfolding workAfter
-work-cleared w h e = e ∙ rw (le-ltb (length w) 16384 h)
+work-cleared w h e = e ∙ rw (le-ltb (length w) leastWork h)
 
 wiped-front : (n : ℕ) (w part : List ℕ) → length part ≡ n → replicate n 0 ++ drop n (part ++ drop n w) ≡ replicate n 0 ++ drop n w
 wiped-front n w part l = rw (drop-at part (drop n w) n l)
 
-pub work-left : (w part : List ℕ) → 16384 ≤ length w → length part ≡ length (take 16384 w) → workAfter (part ++ drop 16384 w) ≡ workAfter w
+pub work-left : (w part : List ℕ) → leastWork ≤ length w → length part ≡ length (take leastWork w) → workAfter (part ++ drop leastWork w) ≡ workAfter w
 unfolding workAfter
 work-left w part h l =
-    let whole : length part ≡ 16384 = l ∙ length-take-le 16384 w h in
-    rw (le-ltb (length w) 16384 h, le-ltb (length (part ++ drop 16384 w)) 16384 (omega (arith, length-append part (drop 16384 w)))) (wiped-front 16384 w part whole)
+    let whole : length part ≡ leastWork = l ∙ length-take-le leastWork w h in
+    rw (le-ltb (length w) leastWork h, le-ltb (length (part ++ drop leastWork w)) leastWork (omega (arith, length-append part (drop leastWork w)))) (wiped-front leastWork w part whole)

@@ -31,9 +31,13 @@ firstFault [] = none
 firstFault (none ∷ checks) = firstFault checks
 firstFault (some fault ∷ checks) = some fault
 
+-- the least words that work may have, of which a call uses just so many
+abbrev pub leastWork : ℕ
+leastWork = 16384
+
 -- 1: work buffer under 16,384 words
 abbrev pub workCheck : ℕ → Check
-workCheck work = refusedIf (ltb work 16384) Status.workTooShort
+workCheck work = refusedIf (ltb work leastWork) Status.workTooShort
 
 -- 2: proof buffer under the words that the call wants: 199 for a search, 231 where leaves are restarted, none for a call that is lent no proof buffer
 abbrev pub proofCheck : ℕ → ℕ → Check
@@ -59,7 +63,7 @@ behind (some fault) refuse given = refuse fault
 
 -- all checks of input are passed
 pub record Admitted (file : List ℕ) (inputs : Inputs) : Type 0 where
-  pub enough-work : 16384 ≤ inputs .work
+  pub enough-work : leastWork ≤ inputs .work
   pub enough-proof : inputs .least ≤ inputs .proof
   pub low-bound : inputs .bound ≤ 32
   pub good-file : judge file .status ≡ 0
@@ -74,4 +78,4 @@ entryOf file inputs = entryBy file (firstFault (checks file inputs))
 
 -- status 1 leaves all buffers unchanged; all others leave the first 16,384 work words zero and the rest unchanged
 unfoldable pub workAfter : List ℕ → List ℕ
-workAfter work = cond (ltb (length work) 16384) work (replicate 16384 0 ++ drop 16384 work)
+workAfter work = cond (ltb (length work) leastWork) work (replicate leastWork 0 ++ drop leastWork work)

@@ -1,8 +1,8 @@
 -- The engine's own enums as document 01's numbers and values: what a call gives, for each case of an enum that is an answer.
 -- The words of a step are `words/Steps.stepWord`, the status of a step judged is `engine/Checking.statusFor`, the door's entry is `Door.entryBy`.
 use Prim.Native.Nat.{ℕ, _-_}
-use Rattle.engine.specs.declared.answer.Room.{Room}
-use Rattle.engine.specs.declared.answer.Room.the-variants.{Left, Over}
+use Rattle.answers.specs.declared.answer.Room.{Room}
+use Rattle.answers.specs.declared.answer.Room.the-variants.{Left, Over}
 use Rattle.engine.specs.declared.check.Verdict.{Verdict}
 use Rattle.engine.specs.declared.check.Verdict.the-variants.{Accepted, Refused}
 use Rattle.engine.specs.declared.search.Ending.{Ending}

@@ -6,9 +6,10 @@ use Prim.Native.Nat.{ℕ, _≤_}
 use lib.Dec.{leb}
 use lib.ListN.{length}
 use Rattle.table.specs.File.{judge}
+use Rattle.unification.specs.Places.{workWords}
 use Rattle.unification.specs.Good.{Good}
-use Rattle.engine.specs.Writing.{wordsOf, answerHeld, Unmarked}
-use Rattle.engine.specs.Repeats.{disjunctsHeld, Chose}
+use Rattle.answers.specs.Writing.{wordsOf, answerHeld, Unmarked}
+use Rattle.answers.specs.Repeats.{disjunctsHeld, Chose}
 use Rattle.hukolearu.specs.Calls.{Given, granted, refused, roomOf, atFront}
 use Rattle.hukolearu.specs.declared.Outcome.{Outcome}
 
@@ -20,7 +21,7 @@ pub record Told (g : Given) (r : Outcome) (proof proof′ answer answer′ : Lis
 
 -- the checks of input are passed
 pub record Passed (f m : List ℕ) (question bound : ℕ) : Type 0 where
-  pub room : length m ≡ 16384
+  pub room : length m ≡ workWords
   pub judged : judge f .status ≡ 0
   pub asked : question ≡ judge f .question
   pub low : bound ≤ 32

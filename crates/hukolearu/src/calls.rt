@@ -4,12 +4,12 @@ use crate::door;
 use crate::door::Entry;
 use crate::door::Inputs;
 use crate::status;
+use answers::answer;
+use answers::answer::Room;
+use answers::once;
 use engine::Conditions;
-use engine::answer;
-use engine::answer::Room;
 use engine::check;
 use engine::check::Verdict;
-use engine::once;
 use engine::search;
 use engine::search::Ending;
 use unification::memory;
@@ -21,9 +21,10 @@ ghost use lib.ListN.{length, take, drop};
 ghost use Rattle.table.specs.File.{tableIn};
 ghost use Rattle.rules.specs.Machinery.Play.{check, searchFor};
 ghost use Rattle.rules.specs.Setting.{profileOf, longestProof, readSteps, base};
+ghost use Rattle.unification.specs.Places.{mostLeaves, stepPlaces, workWords};
 ghost use Rattle.unification.specs.Good.{Good};
 ghost use Rattle.engine.specs.Ended.{settingFor};
-ghost use Rattle.engine.specs.Writing.{answerHeld, disjunctsKept};
+ghost use Rattle.answers.specs.Writing.{answerHeld, disjunctsKept};
 ghost use Rattle.hukolearu.specs.Door.{workAfter};
 ghost use Rattle.hukolearu.specs.Calls.{refused, granted, roomOf, searchGiven, checkGiven, searchBy, searchCall, searchWith, checkBy, checkCall, checkWith, atFront};
 ghost use Rattle.hukolearu.specs.Telling.{Told, Passed, Answerable, Fits, Writable, held};
@@ -95,8 +96,8 @@ fn granted(file: &[u32], work: &mut [u32], answer: &mut [u32], proof: u32, tries
 }
 
 fn copy_steps(work: &[u32], proof: &mut [u32], count: u32)
-    requires { ⌜ (length (now work) ≡ 16384) × (count ≤ 231) × (count ≤ length (now proof)) ⌝ }
-    ensures { λ _. ⌜ now (proof .exit) ≡ atFront (take count (drop 1984 (now (work .entry)))) (now (proof .entry)) ⌝ }
+    requires { ⌜ (length (now work) ≡ workWords) × (count ≤ mostLeaves) × (count ≤ length (now proof)) ⌝ }
+    ensures { λ _. ⌜ now (proof .exit) ≡ atFront (take count (drop stepPlaces (now (work .entry)))) (now (proof .entry)) ⌝ }
 {
     let n = fields::wide(count);
     let mut i = 0;
@@ -116,8 +117,8 @@ fn found(
     answer: &mut [u32],
     work: &mut [u32],
 ) -> Outcome
-    requires { ⌜ Answerable (now file) (now work) × (steps ≤ 231) × (steps ≤ length (now proof)) ⌝ }
-    ensures { λ r. ⌜ Told (held (now (file .entry)) (now (work .entry)) question steps (take steps (drop 1984 (now (work .entry)))) tries (length (now (answer .entry)))) r (now (proof .entry)) (now (proof .exit)) (now (answer .entry)) (now (answer .exit)) ⌝ }
+    requires { ⌜ Answerable (now file) (now work) × (steps ≤ mostLeaves) × (steps ≤ length (now proof)) ⌝ }
+    ensures { λ r. ⌜ Told (held (now (file .entry)) (now (work .entry)) question steps (take steps (drop stepPlaces (now (work .entry)))) tries (length (now (answer .entry)))) r (now (proof .entry)) (now (proof .exit)) (now (answer .entry)) (now (answer .exit)) ⌝ }
 {
     if !fits(file, work, question, answer.len()) {
         return refused(status::ANSWER_TOO_LONG, 0, tries);

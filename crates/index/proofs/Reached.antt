@@ -11,6 +11,8 @@ use borrow.Author.Tests.{eq-eqb, ne-eqb, eqb-true, eqb-false}
 use Rattle.words.specs.Fields.{kindOf}
 use Rattle.table.proofs.Terms.{from-place}
 use Rattle.rules.proofs.Unify.Tests.{decide}
+use Rattle.unification.specs.Places.{workWords}
+use Rattle.index.specs.Places.{mostNoted}
 use Rattle.index.specs.declared.entries.Scan.{Scan}
 use Rattle.index.specs.Scanning.{begun, pastWord, entriesFrom, Standing}
 use Rattle.index.specs.Noting.{keysOf, scansFrom, keysIn, scansIn, linkAt, firstFrom, Unpacks, unpacked, Linked, picked, ahead}
@@ -122,7 +124,7 @@ module _ {f m : List ℕ} {body : ℕ} (g : Linked f body m 0) where
     at : Scanned (take body f) (keysIn f body) (scansIn f body) begun (link - 1) (entry .0)
     at = scan-at (take body f) (link - 1) (entry .1)
 
-    pub lead-low : (length m ≡ 16384) × (link - 1 < 3584)
+    pub lead-low : (length m ≡ workWords) × (link - 1 < mostNoted)
     lead-low = (g .indexed .size, literal-low (g .indexed) (link - 1) inside)
 
     pub lead-unpacks : Unpacks m (link - 1)

@@ -10,6 +10,8 @@ use lib.Seq.{getD-set-same, getD-set-other}
 use borrow.Author.Tests.{eq-eqb, ne-eqb, eqb-true, eqb-false}
 use Rattle.words.specs.Fields.{kindOf}
 use Rattle.rules.proofs.Unify.Tests.{decide}
+use Rattle.unification.specs.Places.{workWords}
+use Rattle.index.specs.Places.{notedPlace, firstPlaces, mostNoted, notePlaces}
 use Rattle.index.specs.declared.entries.Scan.{Scan}
 use Rattle.index.specs.declared.entries.Candidate.{Candidate}
 use Rattle.index.specs.declared.entries.Candidate.the-variants.{Done}
@@ -20,21 +22,21 @@ use Rattle.index.proofs.Scanned.{elem-some, elem-inside, elem-first, Sc
 
 -- how far the noting has come
 pub record Noting (f : List ℕ) (body : ℕ) (m : List ℕ) (scan : Scan) (count : ℕ) : Type 0 where
-  pub size : length m ≡ 16384
+  pub size : length m ≡ workWords
   pub fits : body ≤ length f
   pub short : body ≤ 16000
   pub few : Few (take body f)
   pub standing : Standing (take body f) scan
   pub left : scansFrom scan (drop (scan .at) (take body f)) ≡ drop count (scansIn f body)
   pub within : count ≤ length (scansIn f body)
-  pub most : count ≤ 3584
+  pub most : count ≤ mostNoted
   pub low : scan .literals ≤ 7
   pub begun : scan .literals ≤ 7 * scan .clauses
   pub room : count ≤ 7 * (scan .clauses - 1) + scan .literals
   pub entry : (i : ℕ) (s : Scan) → i < count → getElem? (scansIn f body) i ≡ some s → noteAt m i ≡ packed s
   pub number : (i : ℕ) (s : Scan) → i < count → getElem? (scansIn f body) i ≡ some s → clauseAt m (s .clauses - 1) + s .literals ≡ i
 
-pub noting-begin : {f m : List ℕ} {body : ℕ} → length m ≡ 16384 → body ≤ length f → body ≤ 16000 → Few (take body f) → {scan : Scan} → scan ≡ begun → Noting f body m scan 0
+pub noting-begin : {f m : List ℕ} {body : ℕ} → length m ≡ workWords → body ≤ length f → body ≤ 16000 → Few (take body f) → {scan : Scan} → scan ≡ begun → Noting f body m scan 0
 noting-begin {f} {m} {body} size fits short few e =
     rw e
     (record {
@@ -62,19 +64,19 @@ module _ {f m : List ℕ} {body count : ℕ} {scan : Scan} (g : Noting f body m 
         let none : drop count (scansIn f body) ≡ [] = sym (g .left) ∙ rw (body-end f body (g .fits) h) in
         omega (arith, g .within, sym (length-drop count (scansIn f body)) ∙ ap length none)
 
-    pub noting-end : Indexed f body (set m 4095 count)
+    pub noting-end : Indexed f body (set m notedPlace count)
     noting-end =
         let n = all in
         record {
-          size = length-set m 4095 count ∙ g .size;
+          size = length-set m notedPlace count ∙ g .size;
           fits = g .fits;
           short = g .short;
           few = g .few;
-          count = getD-set-same m 4095 count 0 (omega (arith, g .size)) ∙ sym n;
+          count = getD-set-same m notedPlace count 0 (omega (arith, g .size)) ∙ sym n;
           most = omega (arith, g .most);
-          entry = λ i s e. getD-set-other m 4095 (4096 + 3 * i) count 0 (λ q. omega arith) ∙ g .entry i s (omega (arith, elem-inside (scansIn f body) i e)) e;
+          entry = λ i s e. getD-set-other m notedPlace (notePlaces + 3 * i) count 0 (λ q. omega arith) ∙ g .entry i s (omega (arith, elem-inside (scansIn f body) i e)) e;
           number = λ i s e.
-              ap (_+ s .literals) (getD-set-other m 4095 (14848 + (s .clauses - 1)) count 0 (λ q. omega arith)) ∙ g .number i s (omega (arith, elem-inside (scansIn f body) i e)) e;
+              ap (_+ s .literals) (getD-set-other m notedPlace (firstPlaces + (s .clauses - 1)) count 0 (λ q. omega arith)) ∙ g .number i s (omega (arith, elem-inside (scansIn f body) i e)) e;
         }
 
   -- one word more
@@ -165,40 +167,40 @@ module _ {f m : List ℕ} {body count : ℕ} {scan : Scan} (g : Noting f body m 
           fitting : Fits scan
           fitting = g .few .fits scan (g .standing) inside (ap (λ (w : ℕ). kindOf w) here ∙ kind)
 
-          counted : count < 3584
+          counted : count < mostNoted
           counted = omega (arith, g .room, fitting .clauses, fitting .literals)
 
-          pub noting-literal : ((length m ≡ 16384) × (count < 3584) × Fits scan × (scan .at < 16384) × (scan .literals ≤ count))
+          pub noting-literal : ((length m ≡ workWords) × (count < mostNoted) × Fits scan × (scan .at < 16384) × (scan .literals ≤ count))
           noting-literal = (g .size, counted, fitting, omega (arith, g .short), omega (arith, scanned .few))
 
-          pub noting-count : count < 3584
+          pub noting-count : count < mostNoted
           noting-count = counted
 
           abbrev m₂ : List ℕ
           m₂ = noted m count scan
 
           abbrev m₁ : List ℕ
-          m₁ = set m (4096 + 3 * count) (packed scan)
+          m₁ = set m (notePlaces + 3 * count) (packed scan)
 
-          note-same : (i : ℕ) → (i ≡ count → ⊥) → i < 3584 → noteAt m₂ i ≡ noteAt m i
+          note-same : (i : ℕ) → (i ≡ count → ⊥) → i < mostNoted → noteAt m₂ i ≡ noteAt m i
           note-same i n l =
-              getD-set-other m₁ (14848 + (scan .clauses - 1)) (4096 + 3 * i) (count - scan .literals) 0 (λ e. omega arith)
-              ∙ getD-set-other m (4096 + 3 * count) (4096 + 3 * i) (packed scan) 0 (λ e. omega arith)
+              getD-set-other m₁ (firstPlaces + (scan .clauses - 1)) (notePlaces + 3 * i) (count - scan .literals) 0 (λ e. omega arith)
+              ∙ getD-set-other m (notePlaces + 3 * count) (notePlaces + 3 * i) (packed scan) 0 (λ e. omega arith)
 
           note-here : noteAt m₂ count ≡ packed scan
           note-here =
               let c = counted in
-              getD-set-other m₁ (14848 + (scan .clauses - 1)) (4096 + 3 * count) (count - scan .literals) 0 (λ e. omega arith)
-              ∙ getD-set-same m (4096 + 3 * count) (packed scan) 0 (omega (arith, g .size))
+              getD-set-other m₁ (firstPlaces + (scan .clauses - 1)) (notePlaces + 3 * count) (count - scan .literals) 0 (λ e. omega arith)
+              ∙ getD-set-same m (notePlaces + 3 * count) (packed scan) 0 (omega (arith, g .size))
 
           clause-here : clauseAt m₂ (scan .clauses - 1) ≡ count - scan .literals
-          clause-here = getD-set-same m₁ (14848 + (scan .clauses - 1)) (count - scan .literals) 0 (let s = length-set m (4096 + 3 * count) (packed scan) in omega (arith, g .size, fitting .clauses))
+          clause-here = getD-set-same m₁ (firstPlaces + (scan .clauses - 1)) (count - scan .literals) 0 (let s = length-set m (notePlaces + 3 * count) (packed scan) in omega (arith, g .size, fitting .clauses))
 
           clause-same : (c : ℕ) → (c ≡ scan .clauses - 1 → ⊥) → clauseAt m₂ c ≡ clauseAt m c
           clause-same c n =
               let l = counted in
-              getD-set-other m₁ (14848 + (scan .clauses - 1)) (14848 + c) (count - scan .literals) 0 (λ e. n (omega arith))
-              ∙ getD-set-other m (4096 + 3 * count) (14848 + c) (packed scan) 0 (λ e. omega arith)
+              getD-set-other m₁ (firstPlaces + (scan .clauses - 1)) (firstPlaces + c) (count - scan .literals) 0 (λ e. n (omega arith))
+              ∙ getD-set-other m (notePlaces + 3 * count) (firstPlaces + c) (packed scan) 0 (λ e. omega arith)
 
           entry-of : (i : ℕ) (s : Scan) → i < count + 1 → getElem? (scansIn f body) i ≡ some s → noteAt m₂ i ≡ packed s
           entry-of i s l e =
@@ -238,7 +240,7 @@ module _ {f m : List ℕ} {body count : ℕ} {scan : Scan} (g : Noting f body m 
               let literals : pastWord scan word .literals ≡ scan .literals + 1 = ap (λ (t : Scan). t .literals) (sym past) in
               rw (e, em)
               (record {
-                size = length-set m₁ (14848 + (scan .clauses - 1)) (count - scan .literals) ∙ length-set m (4096 + 3 * count) (packed scan) ∙ g .size;
+                size = length-set m₁ (firstPlaces + (scan .clauses - 1)) (count - scan .literals) ∙ length-set m (notePlaces + 3 * count) (packed scan) ∙ g .size;
                 fits = g .fits;
                 short = g .short;
                 few = g .few;
@@ -306,20 +308,20 @@ module _ {f m : List ℕ} {body : ℕ} (g : Indexed f body m) (clause literal : 
       n i s e c (omega arith))
 
   module _ {q : ℕ} (eq : q ≡ clause) where
-    pub entry-beyond : countAt m ≤ getD m (14848 + q) 0 → entryFrom clause literal begun (take body f) ≡ Done
+    pub entry-beyond : countAt m ≤ getD m (firstPlaces + q) 0 → entryFrom clause literal begun (take body f) ≡ Done
     entry-beyond h =
         let first : countAt m ≤ clauseAt m clause = rw eq at h in
         missing (λ i s e c n. omega (arith, elem-inside (scansIn f body) i e, g .count))
 
-    module _ (h : getD m (14848 + q) 0 < countAt m) where
-      pub entry-over : countAt m - getD m (14848 + q) 0 ≤ literal → entryFrom clause literal begun (take body f) ≡ Done
+    module _ (h : getD m (firstPlaces + q) 0 < countAt m) where
+      pub entry-over : countAt m - getD m (firstPlaces + q) 0 ≤ literal → entryFrom clause literal begun (take body f) ≡ Done
       entry-over k =
           let first : countAt m - clauseAt m clause ≤ literal = rw eq at k in
           missing (λ i s e c n. omega (arith, elem-inside (scansIn f body) i e, g .count))
 
-      module _ (k : literal < countAt m - getD m (14848 + q) 0) where
+      module _ (k : literal < countAt m - getD m (firstPlaces + q) 0) where
         abbrev number : ℕ
-        number = getD m (14848 + q) 0 + literal
+        number = getD m (firstPlaces + q) 0 + literal
 
         found : (s : Scan) × (getElem? (scansIn f body) number ≡ some s)
         found = elem-some (scansIn f body) number (omega (arith, g .count))

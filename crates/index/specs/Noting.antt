@@ -7,6 +7,8 @@ use Prim.Native.Nat.{ℕ, zero, suc, _+_, _*_, _-_, _/_, _%_, _≤_, _<_}
 use lib.Dec.{eqb, ltb}
 use lib.ListN.{length, take, drop, getD, set, getElem?}
 use Rattle.words.specs.Fields.{kindOf, numberOf}
+use Rattle.unification.specs.Places.{workWords}
+use Rattle.index.specs.Places.{notedPlace, firstPlaces, headPlaces, mostNoted, notePlaces, keyCount}
 use Rattle.index.specs.Scanning.{begun, pastWord, Standing}
 use Rattle.index.specs.declared.entries.Scan.{Scan}
 
@@ -64,13 +66,13 @@ movedTo s at = record { at = at; clauses = s .clauses; start = s .start; literal
 
 -- The regions of the notes (docs/MEMORY.md).
 abbrev pub countAt : List ℕ → ℕ
-countAt m = getD m 4095 0
+countAt m = getD m notedPlace 0
 
 abbrev pub noteAt : List ℕ → ℕ → ℕ
-noteAt m i = getD m (4096 + 3 * i) 0
+noteAt m i = getD m (notePlaces + 3 * i) 0
 
 abbrev pub linksAt : List ℕ → ℕ → ℕ
-linksAt m i = getD m (4096 + 3 * i + 1) 0
+linksAt m i = getD m (notePlaces + 3 * i + 1) 0
 
 abbrev pub linkAt : List ℕ → ℕ → ℕ
 linkAt m i = linksAt m i % 4096
@@ -79,13 +81,13 @@ abbrev pub firstAt : List ℕ → ℕ → ℕ
 firstAt m i = linksAt m i / 4096
 
 abbrev pub endAt : List ℕ → ℕ → ℕ
-endAt m i = getD m (4096 + 3 * i + 2) 0
+endAt m i = getD m (notePlaces + 3 * i + 2) 0
 
 abbrev pub clauseAt : List ℕ → ℕ → ℕ
-clauseAt m c = getD m (14848 + c) 0
+clauseAt m c = getD m (firstPlaces + c) 0
 
 abbrev pub headAt : List ℕ → ℕ → ℕ
-headAt m key = getD m (15360 + key) 0
+headAt m key = getD m (headPlaces + key) 0
 
 -- a literal within the limits of a question file
 pub record Fits (s : Scan) : Type 0 where
@@ -103,7 +105,7 @@ abbrev pub packed : Scan → ℕ
 packed s = s .at + 16384 * (s .clauses - 1 + 512 * (s .at - s .start))
 
 abbrev pub noted : List ℕ → ℕ → Scan → List ℕ
-noted m i s = set (set m (4096 + 3 * i) (packed s)) (14848 + (s .clauses - 1)) (i - s .literals)
+noted m i s = set (set m (notePlaces + 3 * i) (packed s)) (firstPlaces + (s .clauses - 1)) (i - s .literals)
 
 -- the literal of a number, read from its note
 abbrev pub unpacked : List ℕ → ℕ → Scan
@@ -116,19 +118,19 @@ unpacked m i =
     }
 
 pub record Unpacks (m : List ℕ) (i : ℕ) : Type 0 where
-  pub size : length m ≡ 16384
-  pub low : i < 3584
+  pub size : length m ≡ workWords
+  pub low : i < mostNoted
   pub offset : noteAt m i / 8388608 ≤ noteAt m i % 16384
   pub number : clauseAt m (noteAt m i / 16384 % 512) ≤ i
 
 -- the literals of a body are noted
 pub record Indexed (f : List ℕ) (body : ℕ) (m : List ℕ) : Type 0 where
-  pub size : length m ≡ 16384
+  pub size : length m ≡ workWords
   pub fits : body ≤ length f
   pub short : body ≤ 16000
   pub few : Few (take body f)
   pub count : countAt m ≡ length (scansIn f body)
-  pub most : length (scansIn f body) ≤ 3584
+  pub most : length (scansIn f body) ≤ mostNoted
   pub entry : (i : ℕ) (s : Scan) → getElem? (scansIn f body) i ≡ some s → noteAt m i ≡ packed s
   pub number : (i : ℕ) (s : Scan) → getElem? (scansIn f body) i ≡ some s → clauseAt m (s .clauses - 1) + s .literals ≡ i
 
@@ -140,13 +142,13 @@ pub record Linked (f : List ℕ) (body : ℕ) (m : List ℕ) (from : ℕ) : Type
   pub ends : (i : ℕ) → from ≤ i → i < length (keysIn f body) → endAt m i ≡ endFrom (numberOf (getD (keysIn f body) i 0)) (i + 1) (drop (i + 1) (keysIn f body))
   pub firsts : (i : ℕ) → from ≤ i → i < length (keysIn f body) → lastFrom (getD (keysIn f body) i 0) (i + 1) (drop (i + 1) (keysIn f body)) ≡ 0
       → linksAt m i ≡ 4096 * firstFrom (getD (keysIn f body) i 0) from (drop from (keysIn f body))
-  pub heads : (key : ℕ) → key < 1024 → headAt m key ≡ endFrom key from (drop from (keysIn f body))
+  pub heads : (key : ℕ) → key < keyCount → headAt m key ≡ endFrom key from (drop from (keysIn f body))
 
 -- one literal linked: the first met with its word, or one more with it
 abbrev pub wordBegun : List ℕ → ℕ → ℕ → List ℕ
 wordBegun m i key =
-    set (set (set m (4096 + 3 * i + 1) (4096 * (i + 1))) (4096 + 3 * i + 2) (headAt m key)) (15360 + key) (i + 1)
+    set (set (set m (notePlaces + 3 * i + 1) (4096 * (i + 1))) (notePlaces + 3 * i + 2) (headAt m key)) (headPlaces + key) (i + 1)
 
 abbrev pub wordJoined : List ℕ → ℕ → ℕ → ℕ → List ℕ
 wordJoined m i key last =
-    set (set (set m (4096 + 3 * i + 1) (firstAt m last)) (4096 + 3 * i + 2) (headAt m key)) (4096 + 3 * last + 1) (4096 * (i + 1))
+    set (set (set m (notePlaces + 3 * i + 1) (firstAt m last)) (notePlaces + 3 * i + 2) (headAt m key)) (notePlaces + 3 * last + 1) (4096 * (i + 1))

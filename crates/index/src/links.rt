@@ -6,11 +6,13 @@ ghost use mathlib.Core.Path.{_≡_};
 ghost use Prim.Native.Nat.{ℕ, _+_, _*_, _/_, _%_, _<_};
 ghost use lib.ListN.{length, drop, getD};
 ghost use Rattle.words.specs.Fields.{numberOf};
+ghost use Rattle.unification.specs.Places.{workWords};
+ghost use Rattle.index.specs.Places.{mostNoted};
 ghost use Rattle.index.specs.Noting.{keysIn, noteAt, linkAt, firstFrom, lastFrom, Indexed, Linked, wordBegun, wordJoined};
 
 // The word of a literal.
 fn word_of(file: &[u32], work: &[u32], literal: u32) -> u32
-    requires { ⌜ (length (now work) ≡ 16384) × (literal < 3584) × (noteAt (now work) literal % 16384 < length (now file)) ⌝ }
+    requires { ⌜ (length (now work) ≡ workWords) × (literal < mostNoted) × (noteAt (now work) literal % 16384 < length (now file)) ⌝ }
     ensures { λ r. ⌜ r ≡ getD (now (file .entry)) (noteAt (now (work .entry)) literal % 16384) 0 ⌝ }
 {
     file[fields::wide(work[places::NOTES + 3 * fields::wide(literal)] % 0x4000)]
@@ -34,7 +36,7 @@ fn last_with(file: &[u32], work: &[u32], word: u32) -> u32
 
 // A literal whose word no later one has.
 fn begin_word(work: &mut [u32], literal: u32, word: u32)
-    requires { ⌜ (length (now work) ≡ 16384) × (literal < 3584) ⌝ }
+    requires { ⌜ (length (now work) ≡ workWords) × (literal < mostNoted) ⌝ }
     ensures { λ _. ⌜ now (work .exit) ≡ wordBegun (now (work .entry)) literal (numberOf word) ⌝ }
 {
     let note = places::NOTES + 3 * fields::wide(literal);
@@ -47,7 +49,7 @@ fn begin_word(work: &mut [u32], literal: u32, word: u32)
 
 // A literal whose word later ones have, the last of them being known.
 fn join_word(work: &mut [u32], literal: u32, word: u32, last: u32)
-    requires { ⌜ (length (now work) ≡ 16384) × (literal < last) × (last < 3584) ⌝ }
+    requires { ⌜ (length (now work) ≡ workWords) × (literal < last) × (last < mostNoted) ⌝ }
     ensures { λ _. ⌜ now (work .exit) ≡ wordJoined (now (work .entry)) literal (numberOf word) last ⌝ }
 {
     let note = places::NOTES + 3 * fields::wide(literal);
@@ -99,7 +101,7 @@ pub fn first(file: &[u32], work: &[u32], word: u32) -> u32
 
 // The next literal with the word of a literal, and one; 0 where there is none.
 pub fn next(work: &[u32], literal: u32) -> u32
-    requires { ⌜ (length (now work) ≡ 16384) × (literal < 3584) ⌝ }
+    requires { ⌜ (length (now work) ≡ workWords) × (literal < mostNoted) ⌝ }
     ensures { λ r. ⌜ r ≡ linkAt (now (work .entry)) literal ⌝ }
 {
     work[places::NOTES + 3 * fields::wide(literal) + 1] % 0x1000

@@ -8,6 +8,8 @@ ghost use mathlib.Core.List.{List};
 ghost use mathlib.Core.Path.{_≡_};
 ghost use Prim.Native.Nat.{ℕ, _≤_, _<_};
 ghost use lib.ListN.{length, take, drop};
+ghost use Rattle.unification.specs.Places.{workWords};
+ghost use Rattle.index.specs.Places.{mostNoted};
 ghost use Rattle.index.specs.Scanning.{IsEntry};
 ghost use Rattle.index.specs.Noting.{plainFrom, movedTo, Fits, Few, packed, noted, Unpacks, unpacked, Indexed};
 
@@ -22,7 +24,7 @@ fn packed(scan: Scan) -> u32
 }
 
 fn note_literal(work: &mut [u32], number: u32, scan: Scan)
-    requires { ⌜ (length (now work) ≡ 16384) × (number < 3584) × Fits scan × (scan .at < 16384) × (scan .literals ≤ number) ⌝ }
+    requires { ⌜ (length (now work) ≡ workWords) × (number < mostNoted) × Fits scan × (scan .at < 16384) × (scan .literals ≤ number) ⌝ }
     ensures { λ _. ⌜ now (work .exit) ≡ noted (now (work .entry)) number scan ⌝ }
 {
     let clause = scan.clauses - 1;
@@ -59,7 +61,7 @@ fn past_plain(file: &[u32], scan: Scan, body: u32) -> Scan
 
 // The literals of a body, noted once.
 pub fn note(file: &[u32], work: &mut [u32], body: u32)
-    requires { ⌜ (length (now work) ≡ 16384) × (body ≤ length (now file)) × (body ≤ 16000) × Few (take body (now file)) ⌝ }
+    requires { ⌜ (length (now work) ≡ workWords) × (body ≤ length (now file)) × (body ≤ 16000) × Few (take body (now file)) ⌝ }
     ensures { λ _. ⌜ Indexed (now (file .entry)) body (now (work .exit)) ⌝ }
 {
     let mut scan = entries::beginning();

@@ -18,7 +18,7 @@ use Rattle.words.specs.Steps.{stepOf}
 use Rattle.words.specs.declared.Step.{Step}
 use Rattle.words.specs.declared.Step.the-variants.{Reduction, Extension, Restart, Malformed}
 use Rattle.words.proofs.Step.{the-type as steps}
-use Rattle.engine.proofs.CheckSteps.{small-clause}
+use Rattle.engine.proofs.Checker.Steps.{small-clause}
 use Rattle.listing.specs.Behind.{copiedBy}
 use Rattle.listing.specs.Counting.{Counted}
 

@@ -10,6 +10,7 @@ use Rattle.words.specs.Fields.{literalsOf}
 use Rattle.rules.specs.Tableau as tableau
 use Rattle.table.specs.Syntax.{Table}
 use Rattle.table.specs.Decode.{clauseOf}
+use Rattle.unification.specs.Places.{mostLeaves, valuePlaces, literalPlaces, numberPlaces, placesEnd, tellingWords, countPlace, workWords, copiesPlace}
 use Rattle.unification.specs.State.{startAt, copiesOf, countOf, ownWords, ClauseAt, literalAtReference, bindingsOf}
 use Rattle.unification.specs.Good.{Good}
 use Rattle.tableaux.specs.Leaves.{chain, leavesFrom, questionsAmong, hung}
@@ -23,47 +24,47 @@ use Rattle.tableaux.proofs.Hung.{hung-copies, hung-start, hung-carries,
 use Rattle.tableaux.proofs.Opening.{hang-length}
 
 -- the words before the leaves cleared, and those after the steps
-pub first-size : (m : List ℕ) {m₁ : List ℕ} → length m ≡ 16384 → m₁ ≡ take 0 m ++ replicate 1216 0 ++ drop (0 + 1216) m → length m₁ ≡ 16384
-first-size m sized e₁ = cleared-length m 0 1216 (omega arith) e₁ ∙ sized
+pub first-size : (m : List ℕ) {m₁ : List ℕ} → length m ≡ workWords → m₁ ≡ take 0 m ++ replicate literalPlaces 0 ++ drop (0 + literalPlaces) m → length m₁ ≡ workWords
+first-size m sized e₁ = cleared-length m 0 literalPlaces (omega arith) e₁ ∙ sized
 
-module _ (m : List ℕ) {m₁ m₀ : List ℕ} (sized : length m ≡ 16384) (e₁ : m₁ ≡ take 0 m ++ replicate 1216 0 ++ drop (0 + 1216) m) (e₀ : m₀ ≡ take 2240 m₁ ++ replicate 576 0 ++ drop (2240 + 576) m₁) where
-  inside : 2240 + 576 ≤ length m₁
+module _ (m : List ℕ) {m₁ m₀ : List ℕ} (sized : length m ≡ workWords) (e₁ : m₁ ≡ take 0 m ++ replicate literalPlaces 0 ++ drop (0 + literalPlaces) m) (e₀ : m₀ ≡ take numberPlaces m₁ ++ replicate tellingWords 0 ++ drop (numberPlaces + tellingWords) m₁) where
+  inside : numberPlaces + tellingWords ≤ length m₁
   inside = omega (arith, first-size m sized e₁)
 
-  pub cleared-size : length m₀ ≡ 16384
-  cleared-size = cleared-length m₁ 2240 576 inside e₀ ∙ first-size m sized e₁
+  pub cleared-size : length m₀ ≡ workWords
+  cleared-size = cleared-length m₁ numberPlaces tellingWords inside e₀ ∙ first-size m sized e₁
 
-  pub cleared-low : (i : ℕ) → i < 1216 → getD m₀ i 0 ≡ 0
+  pub cleared-low : (i : ℕ) → i < literalPlaces → getD m₀ i 0 ≡ 0
   cleared-low i h =
       let same : i ≡ 0 + i = omega arith in
-      cleared-below m₁ 2240 576 inside e₀ i (omega arith)
+      cleared-below m₁ numberPlaces tellingWords inside e₀ i (omega arith)
       ∙ ap (λ (k : ℕ). getD m₁ k 0) same
-      ∙ cleared-zero m 0 1216 (omega arith) e₁ i h
+      ∙ cleared-zero m 0 literalPlaces (omega arith) e₁ i h
 
-  pub cleared-high : (i : ℕ) → 2240 ≤ i → i < 2816 → getD m₀ i 0 ≡ 0
+  pub cleared-high : (i : ℕ) → numberPlaces ≤ i → i < placesEnd → getD m₀ i 0 ≡ 0
   cleared-high i l h =
-      let same : i ≡ 2240 + (i - 2240) = omega arith in
-      ap (λ (k : ℕ). getD m₀ k 0) same ∙ cleared-zero m₁ 2240 576 inside e₀ (i - 2240) (omega arith)
+      let same : i ≡ numberPlaces + (i - numberPlaces) = omega arith in
+      ap (λ (k : ℕ). getD m₀ k 0) same ∙ cleared-zero m₁ numberPlaces tellingWords inside e₀ (i - numberPlaces) (omega arith)
 
   pub cleared-notes : NotesKept m m₀
-  cleared-notes i a b = cleared-above m₁ 2240 576 inside e₀ i (omega arith) ∙ cleared-above m 0 1216 (omega arith) e₁ i (omega arith)
+  cleared-notes i a b = cleared-above m₁ numberPlaces tellingWords inside e₀ i (omega arith) ∙ cleared-above m 0 literalPlaces (omega arith) e₁ i (omega arith)
 
-module _ {f : List ℕ} {question : ℕ} (m₀ : List ℕ) (size : length m₀ ≡ 16384) (low : (i : ℕ) → i < 1216 → getD m₀ i 0 ≡ 0) (high : (i : ℕ) → 2240 ≤ i → i < 2816 → getD m₀ i 0 ≡ 0) (clause : ClauseAt f question) where
+module _ {f : List ℕ} {question : ℕ} (m₀ : List ℕ) (size : length m₀ ≡ workWords) (low : (i : ℕ) → i < literalPlaces → getD m₀ i 0 ≡ 0) (high : (i : ℕ) → numberPlaces ≤ i → i < placesEnd → getD m₀ i 0 ≡ 0) (clause : ClauseAt f question) where
   abbrev one : List ℕ
-  one = set (set m₀ 0 question) 33 1
+  one = set (set m₀ 0 question) copiesPlace 1
 
-  one-other : (i : ℕ) → (i ≡ 33 → ⊥) → (i ≡ 0 → ⊥) → getD one i 0 ≡ getD m₀ i 0
-  one-other i a b = getD-set-other (set m₀ 0 question) 33 i 1 0 a ∙ getD-set-other m₀ 0 i question 0 b
+  one-other : (i : ℕ) → (i ≡ copiesPlace → ⊥) → (i ≡ 0 → ⊥) → getD one i 0 ≡ getD m₀ i 0
+  one-other i a b = getD-set-other (set m₀ 0 question) copiesPlace i 1 0 a ∙ getD-set-other m₀ 0 i question 0 b
 
   one-copies : copiesOf one ≡ 1
-  one-copies = getD-set-same (set m₀ 0 question) 33 1 0 (simp length-set (omega arith))
+  one-copies = getD-set-same (set m₀ 0 question) copiesPlace 1 0 (simp length-set (omega arith))
 
   one-start : startAt one 0 ≡ question
   one-start =
-      getD-set-other (set m₀ 0 question) 33 0 1 0 (λ e. omega arith) ∙ getD-set-same m₀ 0 question 0 (omega arith)
+      getD-set-other (set m₀ 0 question) copiesPlace 0 1 0 (λ e. omega arith) ∙ getD-set-same m₀ 0 question 0 (omega arith)
 
   one-count : countOf one ≡ 0
-  one-count = one-other 34 (λ e. omega arith) (λ e. omega arith) ∙ low 34 (omega arith)
+  one-count = one-other countPlace (λ e. omega arith) (λ e. omega arith) ∙ low countPlace (omega arith)
 
   clauses : Clauses f one
   clauses = record {
@@ -72,15 +73,15 @@ module _ {f : List ℕ} {question : ℕ} (m₀ : List ℕ) (size : length m₀ �
   }
 
   one-good : Good f one
-  one-good = start-good (simp length-set size) clauses one-count (λ v l. one-other (640 + v) (λ e. omega arith) (λ e. omega arith) ∙ low (640 + v) (omega arith))
+  one-good = start-good (simp length-set size) clauses one-count (λ v l. one-other (valuePlaces + v) (λ e. omega arith) (λ e. omega arith) ∙ low (valuePlaces + v) (omega arith))
 
   none-noted : Noted f one 0
   none-noted = record { stands = λ c l. absurd (omega arith); up = λ c l. absurd (omega arith); right = λ c l. absurd (omega arith) }
 
-  room : 0 + length (hangingAt f question 0) ≤ 231
+  room : 0 + length (hangingAt f question 0) ≤ mostLeaves
   room = omega (arith, hanging-all clause, clause-few clause)
 
-  pub begin-counts : {count : ℕ} → count ≡ literalsOf (getD f question 0) → (0 + count ≤ 231) × (count ≡ length (hangingAt f question 0))
+  pub begin-counts : {count : ℕ} → count ≡ literalsOf (getD f question 0) → (0 + count ≤ mostLeaves) × (count ≡ length (hangingAt f question 0))
   begin-counts e = (omega (arith, e, clause-few clause), e ∙ sym (hanging-all clause))
 
   abbrev after : List ℕ
@@ -133,7 +134,7 @@ module _ {f : List ℕ} {question : ℕ} (m₀ : List ℕ) (size : length m₀ �
       start = after-start;
       leaves = open-leaves;
       steps = refl;
-      unnumbered = λ v l. hung-high f one 0 0 0 0 question 0 room (2240 + v) (omega arith) ∙ one-other (2240 + v) (λ z. omega arith) (λ z. omega arith) ∙ high (2240 + v) (omega arith) (omega arith);
+      unnumbered = λ v l. hung-high f one 0 0 0 0 question 0 room (numberPlaces + v) (omega arith) ∙ one-other (numberPlaces + v) (λ z. omega arith) (λ z. omega arith) ∙ high (numberPlaces + v) (omega arith) (omega arith);
     }
 
     pub notes-as : {m′ : List ℕ} → m′ ≡ hung 0 0 0 0 (hangingAt f question 0) one → NotesKept m₀ m′

@@ -9,7 +9,8 @@ use lib.ListN.{length, getD}
 use Rattle.words.specs.Fields.{literalsOf}
 use Rattle.rules.specs.Tableau.{atom}
 use Rattle.rules.specs.Machinery.Unify.{Unified, made, unify}
-use Rattle.unification.specs.State.{startAt, copiesOf, stepAt, literalAtReference, bound}
+use Rattle.unification.specs.Places.{mostLeaves, stepPlaces, workWords, mostCopies, copiesPlace}
+use Rattle.unification.specs.State.{startAt, copiesOf, stepAt, literalAtReference, bindingsIn}
 use Rattle.unification.specs.Good.{wordAt, LiteralStands, Alike as AlikeAt, Good, Outcome, Met}
 use Rattle.tableaux.specs.Ready.{Later, OneMore, leafOf, Extensible, Extended, opened, hangingAt, hungUnder, placeUnder}
 use Rattle.tableaux.specs.declared.tableau.Place.{Place}
@@ -30,7 +31,7 @@ not-made Clash e d = let z : _≡_ {A = ℕ} 0 1 = cc in omega arith
 not-made Circle e d = let z : _≡_ {A = ℕ} 0 1 = cc in omega arith
 
 -- how a meeting ended, where the same is bound
-outcome-kept : (f m m′ : List ℕ) (q : Meeting) (u : Unified) → bound f m′ ≡ bound f m → Outcome f m q u → Outcome f m′ q u
+outcome-kept : (f m m′ : List ℕ) (q : Meeting) (u : Unified) → bindingsIn f m′ ≡ bindingsIn f m → Outcome f m q u → Outcome f m′ q u
 outcome-kept f m m′ Made u e o = o ∙ ap made (sym e)
 outcome-kept f m m′ Clash u e o = o
 outcome-kept f m m′ Circle u e o = o
@@ -53,7 +54,7 @@ module _ {f m : List ℕ} {place : Place} {start offset : ℕ} (x : Extensible f
       let n : new % 256 ≡ offset = omega arith in
       rw (c, n, begun-start (x .openable) step)
 
-  pub extend-small : (copiesOf m < 33) × (offset < 256)
+  pub extend-small : (copiesOf m < mostCopies) × (offset < 256)
   extend-small = (x .openable .copies, new-stands .0)
 
   begun-alike : AlikeAt f begun (leafOf m place) new
@@ -73,7 +74,7 @@ module _ {f m : List ℕ} {place : Place} {start offset : ℕ} (x : Extensible f
   few : length (hangingAt f start offset) ≤ 7
   few = omega (arith, fewer, clause-few (x .openable .clause))
 
-  module _ {m₂ : List ℕ} {q : Meeting} (met : Met f begun m₂ q (unify (bound f begun) (atom (literalAtReference f begun (leafOf m place))) (atom (literalAtReference f begun new)))) where
+  module _ {m₂ : List ℕ} {q : Meeting} (met : Met f begun m₂ q (unify (bindingsIn f begun) (atom (literalAtReference f begun (leafOf m place))) (atom (literalAtReference f begun new)))) where
     met-later : Later begun m₂ place
     met-later =
         let small = steps-small (x .openable) in
@@ -87,13 +88,13 @@ module _ {f m : List ℕ} {place : Place} {start offset : ℕ} (x : Extensible f
           stepping = record {
             good = met .grown .good;
             later = later-then (k .stepping .later) met-later;
-            noted = met .grown .kept .leaves .words (1984 + place .steps) (omega arith) (omega arith) ∙ k .stepping .noted;
+            noted = met .grown .kept .leaves .words (stepPlaces + place .steps) (omega arith) (omega arith) ∙ k .stepping .noted;
           };
-          copies = met .grown .kept .copies .words 33 (omega arith) (omega arith) ∙ k .copies;
+          copies = met .grown .kept .copies .words copiesPlace (omega arith) (omega arith) ∙ k .copies;
           starts = met-later .starts (copiesOf m) (omega (arith, k .copies)) ∙ k .starts;
         }
 
-    met-outcome : Outcome f m₂ q (unify (bound f m) (atom (literalAtReference f m (leafOf m place))) (atom (literalAtReference f m₂ new)))
+    met-outcome : Outcome f m₂ q (unify (bindingsIn f m) (atom (literalAtReference f m (leafOf m place))) (atom (literalAtReference f m₂ new)))
     met-outcome =
         rw (
           ← bound-carried (x .openable .ready .good) (begun-carries (x .openable) step),
@@ -128,8 +129,8 @@ module _ {f m : List ℕ} {place : Place} {start offset : ℕ} (x : Extensible f
     pub extend-meets : Good f m₁ × AlikeAt f m₁ literal (copy * 256 + offset)
     extend-meets = rw (literal-is, eo .0, eo .1) (begun-good (x .openable) step, begun-alike)
 
-    module _ {m₂ : List ℕ} {q : Meeting} (met : Met f m₁ m₂ q (unify (bound f m₁) (atom (literalAtReference f m₁ literal)) (atom (literalAtReference f m₁ (copy * 256 + offset))))) where
-      met-as : Met f begun m₂ q (unify (bound f begun) (atom (literalAtReference f begun (leafOf m place))) (atom (literalAtReference f begun new)))
+    module _ {m₂ : List ℕ} {q : Meeting} (met : Met f m₁ m₂ q (unify (bindingsIn f m₁) (atom (literalAtReference f m₁ literal)) (atom (literalAtReference f m₁ (copy * 256 + offset))))) where
+      met-as : Met f begun m₂ q (unify (bindingsIn f begun) (atom (literalAtReference f begun (leafOf m place))) (atom (literalAtReference f begun new)))
       met-as = rw (literal-is, eo .0, eo .1) at met
 
       pub extend-stopped : (q ≡ Made → ⊥) → Extended f m m₂ place start offset step (record { meeting = q; place = place })
@@ -143,7 +144,7 @@ module _ {f m : List ℕ} {place : Place} {start offset : ℕ} (x : Extensible f
         counted = omega (arith, en, fewer)
 
         pub extend-under :
-            ((length m₂ ≡ 16384) × (copy < 33) × (0 < place .head) × (place .head ≤ place .leaves) × (place .leaves < 231) × (place .leaves + (n - 1) ≤ 231) × (place .steps < 231)) × (n - 1 ≡ length (hangingAt f start offset))
+            ((length m₂ ≡ workWords) × (copy < mostCopies) × (0 < place .head) × (place .head ≤ place .leaves) × (place .leaves < mostLeaves) × (place .leaves + (n - 1) ≤ mostLeaves) × (place .steps < mostLeaves)) × (n - 1 ≡ length (hangingAt f start offset))
         extend-under = (under-inside (x .openable) offset few (met-one-more met-as) (eo .0) counted, counted)
 
       pub extend-went-on : {m₃ : List ℕ} {r : Place} → (r ≡ placeUnder f m₂ place start offset) × (m₃ ≡ hungUnder f m₂ place start copy offset)

@@ -10,6 +10,7 @@ use lib.Dec.{eqb, ltb}
 use lib.ListN.{length, drop, getD, length-set, length-take, length-drop, drop-of-length-le}
 use lib.Seq.{drop-cons, getD-take, getD-drop}
 use Rattle.words.specs.Fields.{kindOf, followingOf}
+use Rattle.unification.specs.Places.{mostLeaves, workWords}
 use Rattle.unification.specs.State.{ownWords}
 use Rattle.tableaux.specs.Leaves.{hangs, hanging, noted, hung}
 
@@ -45,9 +46,9 @@ own-word f p offset h =
 
 -- how far hanging has come: what is left of the clause's own words, from an offset on, gives the whole
 pub record Going (f : List ℕ) (start copy entered parent rest leaves : ℕ) (m₀ m : List ℕ) (offset left : ℕ) : Type 0 where
-  pub size : length m ≡ 16384
+  pub size : length m ≡ workWords
   pub within : offset ≤ 256
-  pub room : leaves + left ≤ 231
+  pub room : leaves + left ≤ mostLeaves
   pub counts : left ≡ length (hanging entered offset (drop offset (ownWords f start)))
   pub same :
       hung copy parent rest leaves (hanging entered 1 (drop 1 (ownWords f start))) m₀ ≡ hung copy parent rest leaves (hanging entered offset (drop offset (ownWords f start))) m
@@ -66,7 +67,7 @@ none-hung copy parent rest leaves [] m e = refl
 none-hung copy parent rest leaves (o ∷ os) m e = absurd (omega arith)
 
 module _ {f m₀ : List ℕ} {start copy entered parent rest leaves : ℕ} where
-  pub going-begin : (left : ℕ) → length m₀ ≡ 16384 → leaves + left ≤ 231 → left ≡ length (hanging entered 1 (drop 1 (ownWords f start)))
+  pub going-begin : (left : ℕ) → length m₀ ≡ workWords → leaves + left ≤ mostLeaves → left ≡ length (hanging entered 1 (drop 1 (ownWords f start)))
       → Going f start copy entered parent rest leaves m₀ m₀ 1 left
   going-begin left size room e = record { size = size; within = omega arith; room = room; counts = e; same = refl }
 

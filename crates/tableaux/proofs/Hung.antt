@@ -13,7 +13,8 @@ use Rattle.rules.specs.Tableau.{Leaf}
 use Rattle.rules.specs.Tableau as tableau
 use Rattle.rules.proofs.Lists.{All}
 use Rattle.rules.proofs.Unify.Tests.{decide}
-use Rattle.unification.specs.State.{startAt, copiesOf, countOf, literalAt, ownWords, ClauseAt, wordsAt, literalAtReference, bound}
+use Rattle.unification.specs.Places.{mostVariables, mostLeaves, valuePlaces, literalPlaces, stepPlaces, numberPlaces, countPlace, trailPlaces, mostCopies, copiesPlace, startPlaces}
+use Rattle.unification.specs.State.{startAt, copiesOf, countOf, literalAt, ownWords, ClauseAt, wordsAt, literalAtReference, bindingsIn}
 use Rattle.unification.specs.Good.{LiteralStands, Good}
 use Rattle.tableaux.specs.Leaves.{branchFrom, leavesFrom, hung}
 use Rattle.tableaux.specs.Ready.{Noted, Later, hangingAt, headAfter}
@@ -56,21 +57,21 @@ module _ (f m : List ℕ) (copy parent rest leaves start entered : ℕ) where
   abbrev after : List ℕ
   after = hung copy parent rest leaves (hangingAt f start entered) m
 
-  module _ (room : leaves + length (hangingAt f start entered) ≤ 231) where
-    hung-low : (i : ℕ) → i < 1216 → getD after i 0 ≡ getD m i 0
+  module _ (room : leaves + length (hangingAt f start entered) ≤ mostLeaves) where
+    hung-low : (i : ℕ) → i < literalPlaces → getD after i 0 ≡ getD m i 0
     hung-low i l = hung-other copy parent rest leaves (hangingAt f start entered) m i (λ k h. (λ e. omega arith, λ e. omega arith, λ e. omega arith))
 
-    pub hung-high : (i : ℕ) → 1984 ≤ i → getD after i 0 ≡ getD m i 0
+    pub hung-high : (i : ℕ) → stepPlaces ≤ i → getD after i 0 ≡ getD m i 0
     hung-high i l = hung-other copy parent rest leaves (hangingAt f start entered) m i (λ k h. (λ e. omega arith, λ e. omega arith, λ e. omega arith))
 
     pub hung-copies : copiesOf after ≡ copiesOf m
-    hung-copies = hung-low 33 (omega arith)
+    hung-copies = hung-low copiesPlace (omega arith)
 
-    pub hung-start : (c : ℕ) → c < 33 → startAt after c ≡ startAt m c
-    hung-start c l = hung-low (0 + c) (omega arith)
+    pub hung-start : (c : ℕ) → c < mostCopies → startAt after c ≡ startAt m c
+    hung-start c l = hung-low (startPlaces + c) (omega arith)
 
     module _ (good : Good f m) where
-      few : countOf m ≤ 528
+      few : countOf m ≤ mostVariables
       few = omega (arith, good .room)
 
       hung-copied : Copied m after
@@ -81,41 +82,41 @@ module _ (f m : List ℕ) (copy parent rest leaves start entered : ℕ) where
         change = record {
           size = hung-length copy parent rest leaves (hangingAt f start entered) m;
           copied = hung-copied;
-          trail = λ i l. hung-low (64 + i) (omega (arith, few));
-          others = λ v l n. hung-low (640 + v) (omega arith);
+          trail = λ i l. hung-low (trailPlaces + i) (omega (arith, few));
+          others = λ v l n. hung-low (valuePlaces + v) (omega arith);
         };
         clauses = record {
           few = omega (arith, hung-copies, good .copies);
           starts = λ c l. let b : c < copiesOf m = omega (arith, hung-copies) in rw (hung-copied .starts c b) (good .starts c b);
         };
-        count = hung-low 34 (omega arith);
+        count = hung-low countPlace (omega arith);
       }
 
       pub hung-good : Good f after
       hung-good = good-carried good hung-carries
 
-      pub hung-later : (place : Place) → place .leaves ≡ leaves → Noted f m leaves → copy < 33 → parent ≤ leaves → rest ≤ leaves → Later m after place
+      pub hung-later : (place : Place) → place .leaves ≡ leaves → Noted f m leaves → copy < mostCopies → parent ≤ leaves → rest ≤ leaves → Later m after place
       hung-later place e noted small up right =
           let same : SameLeaves m after leaves = hung-same copy parent rest leaves f small up right (hangingAt f start entered) m room (λ c l. omega (arith, noted .stands c l .made, good .copies)) in
           record {
-            more = omega (arith, hung-low 34 (omega arith));
-            trail = λ i l. hung-low (64 + i) (omega (arith, few));
-            bound = λ v l h. hung-low (640 + v) (omega arith);
+            more = omega (arith, hung-low countPlace (omega arith));
+            trail = λ i l. hung-low (trailPlaces + i) (omega (arith, few));
+            bound = λ v l h. hung-low (valuePlaces + v) (omega arith);
             copies = omega (arith, hung-copies);
             starts = λ c l. hung-start c (omega (arith, good .copies));
             literals = λ c l. same .literal c (omega arith);
             parents = λ c l. same .parent c (omega arith);
             nexts = λ c l. same .next c (omega arith);
-            steps = λ i l. hung-high (1984 + i) (omega arith);
-            marks = λ v l. hung-high (2240 + v) (omega arith);
+            steps = λ i l. hung-high (stepPlaces + i) (omega arith);
+            marks = λ v l. hung-high (numberPlaces + v) (omega arith);
             notes = λ i a b. hung-high i (omega arith);
           }
 
       module _ (noted : Noted f m leaves) (made : copy < copiesOf m) (begins : startAt m copy ≡ start) (clause : ClauseAt f start) (up : parent ≤ leaves) (right : rest ≤ leaves) where
-        small : copy < 33
+        small : copy < mostCopies
         small = omega (arith, good .copies)
 
-        in-copies : (c : ℕ) → c < leaves → literalAt m c / 256 < 33
+        in-copies : (c : ℕ) → c < leaves → literalAt m c / 256 < mostCopies
         in-copies c l = omega (arith, noted .stands c l .made, good .copies)
 
         standing : All (λ o. (o < 256) × LiteralStands f after (copy * 256 + o)) (hangingAt f start entered)

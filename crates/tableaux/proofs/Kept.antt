@@ -3,7 +3,8 @@ use mathlib.Core.Path.{_≡_, _∙_}
 use mathlib.Core.List.{List}
 use Prim.Native.Nat.{ℕ, _+_, _/_, _≤_, _<_}
 use native.Mathlib.Omega.{arith}
-use Rattle.unification.specs.State.{copiesOf, countOf, literalAt, wordsAt, literalAtReference, bound}
+use Rattle.unification.specs.Places.{mostVariables, mostLeaves, literalPlaces, parentPlaces, nextPlaces, stepPlaces, numberPlaces, copiesPlace, startPlaces}
+use Rattle.unification.specs.State.{copiesOf, countOf, literalAt, wordsAt, literalAtReference, bindingsIn}
 use Rattle.unification.specs.Good.{wordAt, LiteralStands, Good, Grown}
 use Rattle.tableaux.specs.Ready.{Noted, Later}
 use Rattle.tableaux.specs.declared.tableau.Place.{Place}
@@ -27,7 +28,7 @@ module _ (f : List ℕ) {m m′ : List ℕ} (k : Copied m m′) where
 
 -- copies and bindings are carried over to other work words; copies may be added
 pub record Carries (f m m′ : List ℕ) : Type 0 where
-  pub change : Change m m′ (countOf m) 528
+  pub change : Change m m′ (countOf m) mostVariables
   pub clauses : Clauses f m′
   pub count : countOf m′ ≡ countOf m
 
@@ -35,7 +36,7 @@ module _ {f m m′ : List ℕ} (g : Good f m) (k : Carries f m m′) where
   pub good-carried : Good f m′
   good-carried = rw (k .count) (same-held g (k .change) (k .clauses))
 
-  pub bound-carried : bound f m′ ≡ bound f m
+  pub bound-carried : bindingsIn f m′ ≡ bindingsIn f m
   bound-carried = rw (k .count) (same-bindings g (k .change) (countOf m) (omega arith))
 
 -- a later moment
@@ -75,17 +76,17 @@ later-then {m} {m′} {m″} k l = record {
 }
 
 -- more may be bound, and nothing else changes
-pub grown-later : {f m m′ : List ℕ} (place : Place) → Good f m → place .leaves ≤ 231 → place .steps ≤ 231 → Grown f m m′ → Later m m′ place
+pub grown-later : {f m m′ : List ℕ} (place : Place) → Good f m → place .leaves ≤ mostLeaves → place .steps ≤ mostLeaves → Grown f m m′ → Later m m′ place
 grown-later {f} {m} {m′} place h leaves steps g = record {
   more = g .more;
   trail = g .trail;
   bound = λ v s l. let q = on-the-trail f m v (countOf m) (h .listed v s l) in rw (q .there) at (g .values (q .at) (q .below));
-  copies = omega (arith, g .kept .copies .words 33 (omega arith) (omega arith));
-  starts = λ c l. g .kept .copies .words (0 + c) (omega arith) (omega (arith, h .copies));
-  literals = λ c l. g .kept .leaves .words (1216 + c) (omega arith) (omega arith);
-  parents = λ c l. g .kept .leaves .words (1472 + c) (omega arith) (omega arith);
-  nexts = λ c l. g .kept .leaves .words (1728 + c) (omega arith) (omega arith);
-  steps = λ i l. g .kept .leaves .words (1984 + i) (omega arith) (omega arith);
-  marks = λ v l. g .kept .leaves .words (2240 + v) (omega arith) (omega arith);
+  copies = omega (arith, g .kept .copies .words copiesPlace (omega arith) (omega arith));
+  starts = λ c l. g .kept .copies .words (startPlaces + c) (omega arith) (omega (arith, h .copies));
+  literals = λ c l. g .kept .leaves .words (literalPlaces + c) (omega arith) (omega arith);
+  parents = λ c l. g .kept .leaves .words (parentPlaces + c) (omega arith) (omega arith);
+  nexts = λ c l. g .kept .leaves .words (nextPlaces + c) (omega arith) (omega arith);
+  steps = λ i l. g .kept .leaves .words (stepPlaces + i) (omega arith) (omega arith);
+  marks = λ v l. g .kept .leaves .words (numberPlaces + v) (omega arith) (omega arith);
   notes = λ i a b. g .kept .leaves .words i (omega arith) b;
 }

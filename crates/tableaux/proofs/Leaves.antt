@@ -11,8 +11,9 @@ use lib.ListN.{length, getD, set, length-set}
 use lib.Seq.{getD-set-same, getD-set-other}
 use Rattle.rules.specs.Tableau.{Leaf}
 use Rattle.rules.proofs.Lists.{All}
+use Rattle.unification.specs.Places.{mostLeaves, literalPlaces, parentPlaces, nextPlaces, workWords, mostCopies, startPlaces}
 use Rattle.unification.specs.State.{startAt, literalAt, parentAt, nextAt, wordsAt, literalAtReference}
-use Rattle.tableaux.specs.Leaves.{literalOfLeaf, branchFrom, leafAt, leavesFrom, noted, hung}
+use Rattle.tableaux.specs.Leaves.{literalOfLeaf, branchFrom, leafAt, leavesFrom, questionsAmong, noted, hung}
 use Rattle.tableaux.proofs.Chains.{chain-at, chain-past, chain-same}
 use Rattle.tableaux.proofs.Hanging.{noted-length}
 
@@ -42,36 +43,42 @@ module _ (f : List ℕ) {m m′ : List ℕ} {n : ℕ} (s : SameLeaves m m′ n) 
   pub leaves-same : (k head : ℕ) → k ≤ n → leavesFrom f m′ k head ≡ leavesFrom f m k head
   leaves-same k head h = chain-same _ _ _ _ k head (λ c l. same-leaf c (omega arith)) (λ c l. s .next c (omega arith))
 
+-- copies of the question, where the copies stay
+pub questions-same : (m m′ : List ℕ) (question n : ℕ) → ((c : ℕ) → c < n → startAt m′ c ≡ startAt m c) → questionsAmong m′ question n ≡ questionsAmong m question n
+unfolding questionsAmong
+questions-same m m′ question zero s = refl
+questions-same m m′ question (suc n) s = rw (s n (omega arith), questions-same m m′ question n (λ c l. s c (omega arith)))
+
 -- a leaf whose literal's reference is as asked, and whose links lead down
 abbrev pub Cell : (ℕ → Type 0) → List ℕ → ℕ → Type 0
 Cell P m c = P (literalAt m c) × (parentAt m c ≤ c) × (nextAt m c ≤ c)
 
 -- one leaf noted
 module _ (m : List ℕ) (leaf literal parent next : ℕ) where
-  noted-other : (i : ℕ) → (i ≡ 1216 + leaf → ⊥) → (i ≡ 1472 + leaf → ⊥) → (i ≡ 1728 + leaf → ⊥) → getD (noted m leaf literal parent next) i 0 ≡ getD m i 0
+  noted-other : (i : ℕ) → (i ≡ literalPlaces + leaf → ⊥) → (i ≡ parentPlaces + leaf → ⊥) → (i ≡ nextPlaces + leaf → ⊥) → getD (noted m leaf literal parent next) i 0 ≡ getD m i 0
   unfolding noted
   noted-other i a b c =
-      getD-set-other (set (set m (1216 + leaf) literal) (1472 + leaf) parent) (1728 + leaf) i next 0 c
-      ∙ getD-set-other (set m (1216 + leaf) literal) (1472 + leaf) i parent 0 b
-      ∙ getD-set-other m (1216 + leaf) i literal 0 a
+      getD-set-other (set (set m (literalPlaces + leaf) literal) (parentPlaces + leaf) parent) (nextPlaces + leaf) i next 0 c
+      ∙ getD-set-other (set m (literalPlaces + leaf) literal) (parentPlaces + leaf) i parent 0 b
+      ∙ getD-set-other m (literalPlaces + leaf) i literal 0 a
 
-  module _ (size : length m ≡ 16384) (small : leaf < 231) where
+  module _ (size : length m ≡ workWords) (small : leaf < mostLeaves) where
     noted-literal : literalAt (noted m leaf literal parent next) leaf ≡ literal
     unfolding noted
     noted-literal =
-        getD-set-other (set (set m (1216 + leaf) literal) (1472 + leaf) parent) (1728 + leaf) (1216 + leaf) next 0 (λ e. omega arith)
-        ∙ getD-set-other (set m (1216 + leaf) literal) (1472 + leaf) (1216 + leaf) parent 0 (λ e. omega arith)
-        ∙ getD-set-same m (1216 + leaf) literal 0 (omega arith)
+        getD-set-other (set (set m (literalPlaces + leaf) literal) (parentPlaces + leaf) parent) (nextPlaces + leaf) (literalPlaces + leaf) next 0 (λ e. omega arith)
+        ∙ getD-set-other (set m (literalPlaces + leaf) literal) (parentPlaces + leaf) (literalPlaces + leaf) parent 0 (λ e. omega arith)
+        ∙ getD-set-same m (literalPlaces + leaf) literal 0 (omega arith)
 
     noted-parent : parentAt (noted m leaf literal parent next) leaf ≡ parent
     unfolding noted
     noted-parent =
-        getD-set-other (set (set m (1216 + leaf) literal) (1472 + leaf) parent) (1728 + leaf) (1472 + leaf) next 0 (λ e. omega arith)
-        ∙ getD-set-same (set m (1216 + leaf) literal) (1472 + leaf) parent 0 (simp length-set (omega arith))
+        getD-set-other (set (set m (literalPlaces + leaf) literal) (parentPlaces + leaf) parent) (nextPlaces + leaf) (parentPlaces + leaf) next 0 (λ e. omega arith)
+        ∙ getD-set-same (set m (literalPlaces + leaf) literal) (parentPlaces + leaf) parent 0 (simp length-set (omega arith))
 
     noted-next : nextAt (noted m leaf literal parent next) leaf ≡ next
     unfolding noted
-    noted-next = getD-set-same (set (set m (1216 + leaf) literal) (1472 + leaf) parent) (1728 + leaf) next 0 (simp length-set (omega arith))
+    noted-next = getD-set-same (set (set m (literalPlaces + leaf) literal) (parentPlaces + leaf) parent) (nextPlaces + leaf) next 0 (simp length-set (omega arith))
 
 -- the literals of a copy hung
 module _ (copy parent rest leaves : ℕ) where
@@ -88,7 +95,7 @@ module _ (copy parent rest leaves : ℕ) where
 
   -- words that are no cell of the new leaves
   abbrev Apart : ℕ → ℕ → Type 0
-  Apart n i = (k : ℕ) → k < n → (i ≡ 1216 + (leaves + k) → ⊥) × (i ≡ 1472 + (leaves + k) → ⊥) × (i ≡ 1728 + (leaves + k) → ⊥)
+  Apart n i = (k : ℕ) → k < n → (i ≡ literalPlaces + (leaves + k) → ⊥) × (i ≡ parentPlaces + (leaves + k) → ⊥) × (i ≡ nextPlaces + (leaves + k) → ⊥)
 
   pub hung-other : (os m : List ℕ) (i : ℕ) → Apart (length os) i → getD (hung copy parent rest leaves os m) i 0 ≡ getD m i 0
   unfolding hung
@@ -97,31 +104,31 @@ module _ (copy parent rest leaves : ℕ) where
       let b = a (length os) (omega arith) in
       hung-other os (first o os m) i (λ k h. a k (omega arith)) ∙ noted-other m _ _ _ _ i (b .0) (b .1) (b .2)
 
-  module _ (f : List ℕ) (small : copy < 33) (up : parent ≤ leaves) (right : rest ≤ leaves) where
+  module _ (f : List ℕ) (small : copy < mostCopies) (up : parent ≤ leaves) (right : rest ≤ leaves) where
     abbrev Copies : List ℕ → Type 0
-    Copies m = (c : ℕ) → c < leaves → literalAt m c / 256 < 33
+    Copies m = (c : ℕ) → c < leaves → literalAt m c / 256 < mostCopies
 
-    pub hung-same : (os m : List ℕ) → leaves + length os ≤ 231 → Copies m → SameLeaves m (hung copy parent rest leaves os m) leaves
+    pub hung-same : (os m : List ℕ) → leaves + length os ≤ mostLeaves → Copies m → SameLeaves m (hung copy parent rest leaves os m) leaves
     hung-same os m room cs = record {
-      literal = λ c h. hung-other os m (1216 + c) (λ k l. (λ e. omega arith, λ e. omega arith, λ e. omega arith));
-      parent = λ c h. hung-other os m (1472 + c) (λ k l. (λ e. omega arith, λ e. omega arith, λ e. omega arith));
-      next = λ c h. hung-other os m (1728 + c) (λ k l. (λ e. omega arith, λ e. omega arith, λ e. omega arith));
-      start = λ c h. let d = cs c h in hung-other os m (0 + literalAt m c / 256) (λ k l. (λ e. omega arith, λ e. omega arith, λ e. omega arith));
+      literal = λ c h. hung-other os m (literalPlaces + c) (λ k l. (λ e. omega arith, λ e. omega arith, λ e. omega arith));
+      parent = λ c h. hung-other os m (parentPlaces + c) (λ k l. (λ e. omega arith, λ e. omega arith, λ e. omega arith));
+      next = λ c h. hung-other os m (nextPlaces + c) (λ k l. (λ e. omega arith, λ e. omega arith, λ e. omega arith));
+      start = λ c h. let d = cs c h in hung-other os m (startPlaces + literalAt m c / 256) (λ k l. (λ e. omega arith, λ e. omega arith, λ e. omega arith));
     }
 
     abbrev hangingLeaf : List ℕ → ℕ → Leaf
     hangingLeaf m o = record { literal = literalAtReference f m (copy * 256 + o); branch = branchFrom f m leaves parent }
 
-    module _ (o : ℕ) (os m : List ℕ) (size : length m ≡ 16384) (room : leaves + suc (length os) ≤ 231) (cs : Copies m) (below : o < 256) where
+    module _ (o : ℕ) (os m : List ℕ) (size : length m ≡ workWords) (room : leaves + suc (length os) ≤ mostLeaves) (cs : Copies m) (below : o < 256) where
       abbrev after : List ℕ
       after = hung copy parent rest leaves os (first o os m)
 
       first-same : SameLeaves m (first o os m) leaves
       first-same = record {
-        literal = λ c h. noted-other m _ _ _ _ (1216 + c) (λ e. omega arith) (λ e. omega arith) (λ e. omega arith);
-        parent = λ c h. noted-other m _ _ _ _ (1472 + c) (λ e. omega arith) (λ e. omega arith) (λ e. omega arith);
-        next = λ c h. noted-other m _ _ _ _ (1728 + c) (λ e. omega arith) (λ e. omega arith) (λ e. omega arith);
-        start = λ c h. let d = cs c h in noted-other m _ _ _ _ (0 + literalAt m c / 256) (λ e. omega arith) (λ e. omega arith) (λ e. omega arith);
+        literal = λ c h. noted-other m _ _ _ _ (literalPlaces + c) (λ e. omega arith) (λ e. omega arith) (λ e. omega arith);
+        parent = λ c h. noted-other m _ _ _ _ (parentPlaces + c) (λ e. omega arith) (λ e. omega arith) (λ e. omega arith);
+        next = λ c h. noted-other m _ _ _ _ (nextPlaces + c) (λ e. omega arith) (λ e. omega arith) (λ e. omega arith);
+        start = λ c h. let d = cs c h in noted-other m _ _ _ _ (startPlaces + literalAt m c / 256) (λ e. omega arith) (λ e. omega arith) (λ e. omega arith);
       }
 
       first-copies : Copies (first o os m)
@@ -129,23 +136,23 @@ module _ (copy parent rest leaves : ℕ) where
 
       first-literal : literalAt after (leaves + length os) ≡ copy * 256 + o
       first-literal =
-          hung-other os (first o os m) (1216 + (leaves + length os)) (λ k l. (λ e. omega arith, λ e. omega arith, λ e. omega arith))
+          hung-other os (first o os m) (literalPlaces + (leaves + length os)) (λ k l. (λ e. omega arith, λ e. omega arith, λ e. omega arith))
           ∙ noted-literal m _ _ _ _ size (omega arith)
 
       first-parent : parentAt after (leaves + length os) ≡ parent
       first-parent =
-          hung-other os (first o os m) (1472 + (leaves + length os)) (λ k l. (λ e. omega arith, λ e. omega arith, λ e. omega arith))
+          hung-other os (first o os m) (parentPlaces + (leaves + length os)) (λ k l. (λ e. omega arith, λ e. omega arith, λ e. omega arith))
           ∙ noted-parent m _ _ _ _ size (omega arith)
 
       first-next : nextAt after (leaves + length os) ≡ headAfter (length os)
       first-next =
-          hung-other os (first o os m) (1728 + (leaves + length os)) (λ k l. (λ e. omega arith, λ e. omega arith, λ e. omega arith))
+          hung-other os (first o os m) (nextPlaces + (leaves + length os)) (λ k l. (λ e. omega arith, λ e. omega arith, λ e. omega arith))
           ∙ noted-next m _ _ _ _ size (omega arith)
 
       start-same : startAt after copy ≡ startAt m copy
       start-same =
-          hung-other os (first o os m) (0 + copy) (λ k l. (λ e. omega arith, λ e. omega arith, λ e. omega arith))
-          ∙ noted-other m _ _ _ _ (0 + copy) (λ e. omega arith) (λ e. omega arith) (λ e. omega arith)
+          hung-other os (first o os m) (startPlaces + copy) (λ k l. (λ e. omega arith, λ e. omega arith, λ e. omega arith))
+          ∙ noted-other m _ _ _ _ (startPlaces + copy) (λ e. omega arith) (λ e. omega arith) (λ e. omega arith)
 
       first-leaf : leafAt f after (leaves + length os) ≡ hangingLeaf m o
       first-leaf =
@@ -176,7 +183,7 @@ module _ (copy parent rest leaves : ℕ) where
         ap₂ _∷_ leaf (leaf-same m m′ s e os (a .1))
 
     -- the open leaves after hanging: the new ones in order, then those that were right of them
-    pub hung-leaves : (os m : List ℕ) → length m ≡ 16384 → leaves + length os ≤ 231 → Copies m → All (_< 256) os
+    pub hung-leaves : (os m : List ℕ) → length m ≡ workWords → leaves + length os ≤ mostLeaves → Copies m → All (_< 256) os
         → leavesFrom f (hung copy parent rest leaves os m) (leaves + length os) (headAfter (length os)) ≡ map (hangingLeaf m) os ++ leavesFrom f m leaves rest
     unfolding hung All
     hung-leaves [] m size room cs a = rw add-zero
@@ -189,11 +196,11 @@ module _ (copy parent rest leaves : ℕ) where
         (chain-at (leafAt f m′) (nextAt m′) (leaves + length os)
         ∙ ap₂ _∷_ (first-leaf o os m size room cs (a .0)) (ap (leavesFrom f m′ (leaves + length os)) (first-next o os m size room cs (a .0))
         ∙ further
-        ∙ ap₂ _++_ (leaf-same m (first o os m) (first-same o os m size room cs (a .0)) (noted-other m _ _ _ _ (0 + copy) (λ e. omega arith) (λ e. omega arith) (λ e. omega arith)) os (a .1))
+        ∙ ap₂ _++_ (leaf-same m (first o os m) (first-same o os m size room cs (a .0)) (noted-other m _ _ _ _ (startPlaces + copy) (λ e. omega arith) (λ e. omega arith) (λ e. omega arith)) os (a .1))
         (leaves-same f (first-same o os m size room cs (a .0)) leaves rest (omega arith))))
 
     -- each new leaf: its literal is one of those hung, and its links lead down
-    pub hung-cells : (P : ℕ → Type 0) (os m : List ℕ) → length m ≡ 16384 → leaves + length os ≤ 231 → Copies m → All (λ o. (o < 256) × P (copy * 256 + o)) os
+    pub hung-cells : (P : ℕ → Type 0) (os m : List ℕ) → length m ≡ workWords → leaves + length os ≤ mostLeaves → Copies m → All (λ o. (o < 256) × P (copy * 256 + o)) os
         → (c : ℕ) → leaves ≤ c → c < leaves + length os
         → Cell P (hung copy parent rest leaves os m) c
     unfolding hung All

@@ -4,6 +4,7 @@ use mathlib.Core.List.{List, _∷_}
 use Prim.Native.Nat.{ℕ, suc, _+_, _-_, _≤_, _<_}
 use native.Mathlib.Omega.{arith}
 use lib.ListN.{length}
+use Rattle.unification.specs.Places.{mostVariables, mostLeaves}
 use Rattle.unification.specs.State.{countOf, parentAt, nextAt}
 use Rattle.tableaux.specs.Leaves.{chain, literalOfLeaf, branchFrom, leafAt, leavesFrom}
 use Rattle.tableaux.specs.Ready.{Ready, openLeaves, restOf}
@@ -27,10 +28,10 @@ module _ {A : Type 0} (item : ℕ → A) (link : ℕ → ℕ) (n head : ℕ) (so
       sym (ap (λ (x : ℕ). chain item link x (link (head - 1))) (sym k) ∙ chain-past item link (head - 1) (n - (head - 1)) (link (head - 1)) low)
 
 module _ {f m : List ℕ} {place : Place} (r : Ready f m place) where
-  pub leaves-few : place .leaves ≤ 231
+  pub leaves-few : place .leaves ≤ mostLeaves
   leaves-few = omega (arith, r .room, r .good .copies)
 
-  pub count-few : countOf m ≤ 528
+  pub count-few : countOf m ≤ mostVariables
   count-few = omega (arith, r .good .room)
 
   module _ (some : 0 < place .head) where

@@ -13,7 +13,8 @@ use Rattle.rules.specs.Substitution.{Variable}
 use Rattle.rules.specs.Tableau.{Leaf}
 use Rattle.rules.specs.Tableau as tableau
 use Rattle.rules.proofs.Unify.Tests.{decide}
-use Rattle.unification.specs.State.{startAt, copiesOf, stepAt, literalAtReference, bound}
+use Rattle.unification.specs.Places.{mostLeaves, valuePlaces, literalPlaces, parentPlaces, nextPlaces, stepPlaces, numberPlaces, countPlace, trailPlaces, workWords, mostCopies, copiesPlace, startPlaces}
+use Rattle.unification.specs.State.{startAt, copiesOf, stepAt, literalAtReference, bindingsIn}
 use Rattle.unification.specs.Good.{LiteralStands, Good}
 use Rattle.tableaux.specs.Leaves.{leafAt, leavesFrom, hung}
 use Rattle.tableaux.specs.Ready.{Noted, Ready, Later, OneMore, Hung, openLeaves, leafOf, restOf, Openable, opened, hangingAt, headAfter, hungUnder, placeUnder}
@@ -46,7 +47,7 @@ hang-length branch at os rest =
     ∙ ap (_+ length rest) (length-map (map at os) (λ (l : Literal Variable). record { literal = l; branch = branch }) ∙ length-map os at)
 
 module _ {f m : List ℕ} {place : Place} {start : ℕ} (x : Openable f m place start) where
-  pub steps-small : place .steps < 231
+  pub steps-small : place .steps < mostLeaves
   steps-small = omega (arith, leaves-few (x .ready), steps-few (x .ready) (x .some-open))
 
   pub leaf-stands : LiteralStands f m (leafOf m place)
@@ -57,35 +58,35 @@ module _ {f m : List ℕ} {place : Place} {start : ℕ} (x : Openable f m place 
     abbrev begun : List ℕ
     begun = opened m start (place .steps) step
 
-    begun-other : (i : ℕ) → (i ≡ 33 → ⊥) → (i ≡ 0 + copiesOf m → ⊥) → (i ≡ 1984 + place .steps → ⊥) → getD begun i 0 ≡ getD m i 0
+    begun-other : (i : ℕ) → (i ≡ copiesPlace → ⊥) → (i ≡ 0 + copiesOf m → ⊥) → (i ≡ stepPlaces + place .steps → ⊥) → getD begun i 0 ≡ getD m i 0
     begun-other i a b c =
-        getD-set-other (set (set m (1984 + place .steps) step) (0 + copiesOf m) start) 33 i (copiesOf m + 1) 0 a
-        ∙ getD-set-other (set m (1984 + place .steps) step) (0 + copiesOf m) i start 0 b
-        ∙ getD-set-other m (1984 + place .steps) i step 0 c
+        getD-set-other (set (set m (stepPlaces + place .steps) step) (startPlaces + copiesOf m) start) copiesPlace i (copiesOf m + 1) 0 a
+        ∙ getD-set-other (set m (stepPlaces + place .steps) step) (startPlaces + copiesOf m) i start 0 b
+        ∙ getD-set-other m (stepPlaces + place .steps) i step 0 c
 
     pub begun-copies : copiesOf begun ≡ copiesOf m + 1
     begun-copies =
-        getD-set-same (set (set m (1984 + place .steps) step) (0 + copiesOf m) start) 33 (copiesOf m + 1) 0
+        getD-set-same (set (set m (stepPlaces + place .steps) step) (startPlaces + copiesOf m) start) copiesPlace (copiesOf m + 1) 0
         (simp length-set (omega (arith, x .ready .good .size)))
 
     pub begun-start : startAt begun (copiesOf m) ≡ start
     begun-start =
-        getD-set-other (set (set m (1984 + place .steps) step) (0 + copiesOf m) start) 33 (0 + copiesOf m) (copiesOf m + 1) 0 (λ e. omega (arith, x .copies))
-        ∙ getD-set-same (set m (1984 + place .steps) step) (0 + copiesOf m) start 0 (simp length-set (omega (arith, x .ready .good .size, x .copies)))
+        getD-set-other (set (set m (stepPlaces + place .steps) step) (startPlaces + copiesOf m) start) copiesPlace (startPlaces + copiesOf m) (copiesOf m + 1) 0 (λ e. omega (arith, x .copies))
+        ∙ getD-set-same (set m (stepPlaces + place .steps) step) (startPlaces + copiesOf m) start 0 (simp length-set (omega (arith, x .ready .good .size, x .copies)))
 
     begun-step : stepAt begun (place .steps) ≡ step
     begun-step =
-        getD-set-other (set (set m (1984 + place .steps) step) (0 + copiesOf m) start) 33 (1984 + place .steps) (copiesOf m + 1) 0 (λ e. omega arith)
-        ∙ getD-set-other (set m (1984 + place .steps) step) (0 + copiesOf m) (1984 + place .steps) start 0 (λ e. omega (arith, x .copies))
-        ∙ getD-set-same m (1984 + place .steps) step 0 (omega (arith, x .ready .good .size, steps-small))
+        getD-set-other (set (set m (stepPlaces + place .steps) step) (startPlaces + copiesOf m) start) copiesPlace (stepPlaces + place .steps) (copiesOf m + 1) 0 (λ e. omega arith)
+        ∙ getD-set-other (set m (stepPlaces + place .steps) step) (startPlaces + copiesOf m) (stepPlaces + place .steps) start 0 (λ e. omega (arith, x .copies))
+        ∙ getD-set-same m (stepPlaces + place .steps) step 0 (omega (arith, x .ready .good .size, steps-small))
 
-    low : (i : ℕ) → 34 ≤ i → i < 1984 → getD begun i 0 ≡ getD m i 0
+    low : (i : ℕ) → countPlace ≤ i → i < stepPlaces → getD begun i 0 ≡ getD m i 0
     low i a b = begun-other i (λ e. omega arith) (λ e. omega (arith, x .copies)) (λ e. omega arith)
 
     pub begun-copied : Copied m begun
     begun-copied = record {
       more = omega (arith, begun-copies);
-      starts = λ c l. begun-other (0 + c) (λ e. omega (arith, x .copies)) (λ e. omega arith) (λ e. omega (arith, x .copies));
+      starts = λ c l. begun-other (startPlaces + c) (λ e. omega (arith, x .copies)) (λ e. omega arith) (λ e. omega (arith, x .copies));
     }
 
     pub begun-carries : Carries f m begun
@@ -93,8 +94,8 @@ module _ {f m : List ℕ} {place : Place} {start : ℕ} (x : Openable f m place 
       change = record {
         size = simp length-set;
         copied = begun-copied;
-        trail = λ i l. low (64 + i) (omega arith) (omega (arith, count-few (x .ready)));
-        others = λ v l n. low (640 + v) (omega arith) (omega arith);
+        trail = λ i l. low (trailPlaces + i) (omega arith) (omega (arith, count-few (x .ready)));
+        others = λ v l n. low (valuePlaces + v) (omega arith) (omega arith);
       };
       clauses = record {
         few = omega (arith, begun-copies, x .copies);
@@ -102,7 +103,7 @@ module _ {f m : List ℕ} {place : Place} {start : ℕ} (x : Openable f m place 
             (λ e. let b : c < copiesOf m = ltb-true c (copiesOf m) e in rw (begun-copied .starts c b) (x .ready .good .starts c b))
             (λ e. let b : c ≡ copiesOf m = omega (arith, begun-copies, ltb-false c (copiesOf m) e) in rw (b, begun-start) (x .clause));
       };
-      count = low 34 (omega arith) (omega arith);
+      count = low countPlace (omega arith) (omega arith);
     }
 
     pub begun-good : Good f begun
@@ -114,15 +115,15 @@ module _ {f m : List ℕ} {place : Place} {start : ℕ} (x : Openable f m place 
         let small = steps-small in
         record {
           more = omega (arith, begun-carries .count);
-          trail = λ i l. low (64 + i) (omega arith) (omega (arith, count-few (x .ready)));
-          bound = λ v l h. low (640 + v) (omega arith) (omega arith);
+          trail = λ i l. low (trailPlaces + i) (omega arith) (omega (arith, count-few (x .ready)));
+          bound = λ v l h. low (valuePlaces + v) (omega arith) (omega arith);
           copies = begun-copied .more;
           starts = begun-copied .starts;
-          literals = λ c l. low (1216 + c) (omega arith) (omega arith);
-          parents = λ c l. low (1472 + c) (omega arith) (omega arith);
-          nexts = λ c l. low (1728 + c) (omega arith) (omega arith);
-          steps = λ i l. begun-other (1984 + i) (λ e. omega arith) (λ e. omega (arith, x .copies)) (λ e. omega arith);
-          marks = λ v l. begun-other (2240 + v) (λ e. omega (arith, few)) (λ e. omega (arith, x .copies)) (λ e. omega (arith, small));
+          literals = λ c l. low (literalPlaces + c) (omega arith) (omega arith);
+          parents = λ c l. low (parentPlaces + c) (omega arith) (omega arith);
+          nexts = λ c l. low (nextPlaces + c) (omega arith) (omega arith);
+          steps = λ i l. begun-other (stepPlaces + i) (λ e. omega arith) (λ e. omega (arith, x .copies)) (λ e. omega arith);
+          marks = λ v l. begun-other (numberPlaces + v) (λ e. omega (arith, few)) (λ e. omega (arith, x .copies)) (λ e. omega (arith, small));
           notes = λ i a b. begun-other i (λ e. omega (arith, few)) (λ e. omega (arith, x .copies)) (λ e. omega (arith, small));
         }
 
@@ -138,7 +139,7 @@ module _ {f m : List ℕ} {place : Place} {start : ℕ} (x : Openable f m place 
 
   -- its literals hung, but for the one entered
   module _ (offset : ℕ) (few : length (hangingAt f start offset) ≤ 7) {step : ℕ} {m₂ : List ℕ} (k : OneMore f m m₂ place start step) where
-    room : place .leaves + length (hangingAt f start offset) ≤ 231
+    room : place .leaves + length (hangingAt f start offset) ≤ mostLeaves
     room = omega (arith, few, x .ready .room, x .copies)
 
     later : Later m m₂ place
@@ -212,7 +213,7 @@ module _ {f m : List ℕ} {place : Place} {start : ℕ} (x : Openable f m place 
       stepping = record {
         good = after-ready .good;
         later = after-later;
-        noted = hung-high f m₂ (copiesOf m) (place .head) (restOf m₂ place) (place .leaves) start offset room (1984 + place .steps) (omega arith) ∙ k .stepping .noted;
+        noted = hung-high f m₂ (copiesOf m) (place .head) (restOf m₂ place) (place .leaves) start offset room (stepPlaces + place .steps) (omega arith) ∙ k .stepping .noted;
       };
       copies = after-copies;
       starts = hung-start f m₂ (copiesOf m) (place .head) (restOf m₂ place) (place .leaves) start offset room (copiesOf m) (x .copies) ∙ k .starts;
@@ -220,7 +221,7 @@ module _ {f m : List ℕ} {place : Place} {start : ℕ} (x : Openable f m place 
 
     -- what hanging them asks, with the values as the code has them
     pub under-inside : {copy count : ℕ} → copy ≡ copiesOf m → count ≡ length (hangingAt f start offset)
-        → (length m₂ ≡ 16384) × (copy < 33) × (0 < place .head) × (place .head ≤ place .leaves) × (place .leaves < 231) × (place .leaves + count ≤ 231) × (place .steps < 231)
+        → (length m₂ ≡ workWords) × (copy < mostCopies) × (0 < place .head) × (place .head ≤ place .leaves) × (place .leaves < mostLeaves) × (place .leaves + count ≤ mostLeaves) × (place .steps < mostLeaves)
     under-inside ec en = (
       k .stepping .good .size,
       omega (arith, ec, x .copies),

@@ -5,6 +5,7 @@ use Prim.Native.Nat.{ℕ, _+_, _≤_, _<_}
 use native.Mathlib.Omega.{arith}
 use lib.ListN.{length, getD}
 use Rattle.words.specs.Fields.{literalsOf}
+use Rattle.unification.specs.Places.{mostLeaves, workWords, mostCopies}
 use Rattle.unification.specs.State.{copiesOf}
 use Rattle.tableaux.specs.Ready.{Openable, Restarted, opened, hangingAt, hungUnder, placeUnder}
 use Rattle.tableaux.specs.declared.tableau.Place.{Place}
@@ -26,7 +27,7 @@ module _ {f m : List ℕ} {place : Place} {question : ℕ} (x : Openable f m pla
   -- the same, with the values as the code has them
   module _ {copy : ℕ} {m₁ : List ℕ} (eo : (copy ≡ copiesOf m) × (m₁ ≡ opened m question (place .steps) step)) where
     pub restart-under : {count : ℕ} → count ≡ literalsOf (getD f question 0)
-        → ((length m₁ ≡ 16384) × (copy < 33) × (0 < place .head) × (place .head ≤ place .leaves) × (place .leaves < 231) × (place .leaves + count ≤ 231) × (place .steps < 231)) × (count ≡ length (hangingAt f question 0))
+        → ((length m₁ ≡ workWords) × (copy < mostCopies) × (0 < place .head) × (place .head ≤ place .leaves) × (place .leaves < mostLeaves) × (place .leaves + count ≤ mostLeaves) × (place .steps < mostLeaves)) × (count ≡ length (hangingAt f question 0))
     restart-under en =
         let counted = en ∙ sym (hanging-all (x .clause)) in
         rw (eo .1) (under-inside x 0 few (one-more x step) (eo .0) counted, counted)

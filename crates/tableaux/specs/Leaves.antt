@@ -8,6 +8,7 @@ use Rattle.words.specs.Fields.{kindOf}
 use Rattle.table.specs.Syntax.{Literal}
 use Rattle.rules.specs.Substitution.{Variable}
 use Rattle.rules.specs.Tableau.{Leaf}
+use Rattle.unification.specs.Places.{literalPlaces, parentPlaces, nextPlaces}
 use Rattle.unification.specs.State.{startAt, literalAt, parentAt, nextAt, ownWords, literalAtReference}
 
 -- The items that links lead through from a head, among so many: a head is an item's number and one, or 0 where there is none. Links lead down.
@@ -55,7 +56,7 @@ hanging entered offset (w ∷ ws) =
 
 -- one leaf noted
 unfoldable pub noted : List ℕ → ℕ → ℕ → ℕ → ℕ → List ℕ
-noted m leaf literal parent next = set (set (set m (1216 + leaf) literal) (1472 + leaf) parent) (1728 + leaf) next
+noted m leaf literal parent next = set (set (set m (literalPlaces + leaf) literal) (parentPlaces + leaf) parent) (nextPlaces + leaf) next
 
 -- The literals of a copy noted as leaves, the first of them highest: what is written from an offset on, while so many are left.
 unfoldable pub hung : ℕ → ℕ → ℕ → ℕ → List ℕ → List ℕ → List ℕ

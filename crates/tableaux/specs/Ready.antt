@@ -11,8 +11,10 @@ use Rattle.table.specs.Decode.{clauseOf}
 use Rattle.rules.specs.Tableau.{Leaf, Tableau, atom, copyOf}
 use Rattle.rules.specs.Tableau as tableau
 use Rattle.rules.specs.Machinery.Unify.{Bindings, unify}
-use Rattle.unification.specs.State.{startAt, copiesOf, countOf, trailAt, boundAt, literalAt, parentAt, nextAt, stepAt, markAt, ownWords, ClauseAt, literalAtReference, bound}
+use Rattle.unification.specs.Places.{mostVariables, stepPlaces, workWords, mostCopies, copiesPlace, startPlaces}
+use Rattle.unification.specs.State.{startAt, copiesOf, countOf, trailAt, boundAt, literalAt, parentAt, nextAt, stepAt, numberedAt, ownWords, ClauseAt, literalAtReference, bindingsIn}
 use Rattle.unification.specs.Good.{wordAt, LiteralStands, Good, Outcome}
+use Rattle.index.specs.Places.{notedPlace}
 use Rattle.tableaux.specs.Leaves.{literalOfLeaf, leafAt, leavesFrom, questionsAmong, offsetsAt, hanging, hung}
 use Rattle.tableaux.specs.declared.tableau.Place.{Place}
 use Rattle.tableaux.specs.declared.tableau.Taken.{Taken}
@@ -41,26 +43,26 @@ pub record Ready (f m : List ℕ) (place : Place) : Type 0 where
 -- the tableau and the bindings that they stand for
 pub record Stands (f m : List ℕ) (question : ℕ) (place : Place) (x : Tableau) (bs : Bindings) : Type 0 where
   pub leaves : x .leaves ≡ openLeaves f m place
-  pub bindings : bs ≡ bound f m
+  pub bindings : bs ≡ bindingsIn f m
   pub extensions : suc (x .extensions) ≡ copiesOf m
   pub questions : x .questions ≡ questionsAmong m question (copiesOf m)
 
 -- the notes of the body's literals are as they were
 abbrev pub NotesKept : List ℕ → List ℕ → Type 0
-NotesKept m m′ = (i : ℕ) → 4095 ≤ i → i < 16384 → getD m′ i 0 ≡ getD m i 0
+NotesKept m m′ = (i : ℕ) → notedPlace ≤ i → i < workWords → getD m′ i 0 ≡ getD m i 0
 
 -- what was there at an earlier moment, at a place, is still there
 pub record Later (m m′ : List ℕ) (place : Place) : Type 0 where
   pub more : countOf m ≤ countOf m′
   pub trail : (i : ℕ) → i < countOf m → trailAt m′ i ≡ trailAt m i
-  pub bound : (v : ℕ) → v < 528 → 0 < boundAt m v → boundAt m′ v ≡ boundAt m v
+  pub bound : (v : ℕ) → v < mostVariables → 0 < boundAt m v → boundAt m′ v ≡ boundAt m v
   pub copies : copiesOf m ≤ copiesOf m′
   pub starts : (c : ℕ) → c < copiesOf m → startAt m′ c ≡ startAt m c
   pub literals : (c : ℕ) → c < place .leaves → literalAt m′ c ≡ literalAt m c
   pub parents : (c : ℕ) → c < place .leaves → parentAt m′ c ≡ parentAt m c
   pub nexts : (c : ℕ) → c < place .leaves → nextAt m′ c ≡ nextAt m c
   pub steps : (i : ℕ) → i < place .steps → stepAt m′ i ≡ stepAt m i
-  pub marks : (v : ℕ) → v < 528 → markAt m′ v ≡ markAt m v
+  pub marks : (v : ℕ) → v < mostVariables → numberedAt m′ v ≡ numberedAt m v
   pub notes : NotesKept m m′
 
 -- the start
@@ -74,7 +76,7 @@ pub record Begun (f m : List ℕ) (question : ℕ) (place : Place) : Type 0 wher
   pub start : startAt m 0 ≡ question
   pub leaves : openLeaves f m place ≡ startLeaves f question
   pub steps : place .steps ≡ 0
-  pub unnumbered : (v : ℕ) → v < 528 → markAt m v ≡ 0
+  pub unnumbered : (v : ℕ) → v < mostVariables → numberedAt m v ≡ 0
 
 -- the words of two literals of one predicate and arity
 pub record Alike (v w : ℕ) : Type 0 where
@@ -103,7 +105,7 @@ pub record Stepping (f m m′ : List ℕ) (place : Place) (step : ℕ) : Type 0 
 
 pub record Reduced (f m m′ : List ℕ) (place : Place) (ancestor step : ℕ) (r : Taken) : Type 0 where
   pub stepping : Stepping f m m′ place step
-  pub outcome : Outcome f m′ (r .meeting) (unify (bound f m) (atom (literalAtReference f m (leafOf m place))) (atom (literalAtReference f m ancestor)))
+  pub outcome : Outcome f m′ (r .meeting) (unify (bindingsIn f m) (atom (literalAtReference f m (leafOf m place))) (atom (literalAtReference f m ancestor)))
   pub ready : Ready f m′ (r .place)
   pub copies : copiesOf m′ ≡ copiesOf m
   pub leaves : openLeaves f m′ (r .place) ≡ leavesFrom f m (place .leaves) (restOf m place)
@@ -113,7 +115,7 @@ pub record Reduced (f m m′ : List ℕ) (place : Place) (ancestor step : ℕ) (
 pub record Openable (f m : List ℕ) (place : Place) (start : ℕ) : Type 0 where
   pub ready : Ready f m place
   pub some-open : 0 < place .head
-  pub copies : copiesOf m < 33
+  pub copies : copiesOf m < mostCopies
   pub clause : ClauseAt f start
 
 -- an extension of the leftmost leaf by a copy of the clause at a position, entered at an offset
@@ -125,7 +127,7 @@ pub record Extensible (f m : List ℕ) (place : Place) (start offset : ℕ) : Ty
 
 -- one more copy, and the step noted
 abbrev pub opened : List ℕ → ℕ → ℕ → ℕ → List ℕ
-opened m start steps step = set (set (set m (1984 + steps) step) (0 + copiesOf m) start) 33 (copiesOf m + 1)
+opened m start steps step = set (set (set m (stepPlaces + steps) step) (startPlaces + copiesOf m) start) copiesPlace (copiesOf m + 1)
 
 -- the literals that hang: all but the one that is entered; none is entered at offset 0, where the clause word stands
 abbrev pub hangingAt : List ℕ → ℕ → ℕ → List ℕ
@@ -165,11 +167,11 @@ pub record Extended (f m m′ : List ℕ) (place : Place) (start offset step : �
   pub copied : OneMore f m m′ place start step
   pub outcome :
       Outcome f m′ (r .meeting)
-      (unify (bound f m) (atom (literalAtReference f m (leafOf m place))) (atom (literalAtReference f m′ (copiesOf m * 256 + offset))))
+      (unify (bindingsIn f m) (atom (literalAtReference f m (leafOf m place))) (atom (literalAtReference f m′ (copiesOf m * 256 + offset))))
   pub hung : r .meeting ≡ Made → Hung f m m′ place (r .place) start offset
 
 -- a restart: nothing is bound, and all of the question's literals hang under the leaf
 pub record Restarted (f m m′ : List ℕ) (place : Place) (question step : ℕ) (next : Place) : Type 0 where
   pub copied : OneMore f m m′ place question step
-  pub bindings : bound f m′ ≡ bound f m
+  pub bindings : bindingsIn f m′ ≡ bindingsIn f m
   pub hung : Hung f m m′ place next question 0

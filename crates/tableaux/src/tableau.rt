@@ -9,6 +9,7 @@ ghost use Prim.Native.Nat.{ℕ, _+_, _*_, _-_, _≤_, _<_};
 ghost use lib.Dec.{eqb};
 ghost use lib.ListN.{length, drop, getD, set};
 ghost use Rattle.words.specs.Fields.{literalsOf};
+ghost use Rattle.unification.specs.Places.{mostLeaves, stepPlaces, workWords, mostCopies};
 ghost use Rattle.unification.specs.State.{copiesOf, literalAt, parentAt, nextAt, ownWords, ClauseAt};
 ghost use Rattle.tableaux.specs.Leaves.{hangs, hanging, noted, hung};
 ghost use Rattle.tableaux.specs.Ready.{Ready, NotesKept, Begun, Reducible, Reduced, Openable, Extensible, Extended, Restarted, opened, hangingAt, headAfter, hungUnder, placeUnder};
@@ -27,7 +28,7 @@ pub struct Taken {
 }
 
 fn note(work: &mut [u32], leaf: u32, literal: u32, parent: u32, next: u32)
-    requires { ⌜ (length (now work) ≡ 16384) × (leaf < 231) ⌝ }
+    requires { ⌜ (length (now work) ≡ workWords) × (leaf < mostLeaves) ⌝ }
     ensures { λ _. ⌜ now (work .exit) ≡ noted (now (work .entry)) leaf literal parent next ⌝ }
 {
     let at = fields::wide(leaf);
@@ -48,7 +49,7 @@ pub fn hangs(word: u32, offset: u32, entered: u32) -> bool
 
 // The head after a leaf that has so many hung leaves right of it.
 fn next_of(left: u32, rest: u32, leaves: u32) -> u32
-    requires { ⌜ (left < 231) × (leaves < 231) ⌝ }
+    requires { ⌜ (left < mostLeaves) × (leaves < mostLeaves) ⌝ }
     ensures { λ r. ⌜ r ≡ cond (eqb left 0) rest (leaves + left) ⌝ }
 {
     if left == 0 {
@@ -69,7 +70,7 @@ fn hang(
     rest: u32,
     leaves: u32,
 )
-    requires { ⌜ (length (now work) ≡ 16384) × (copy < 33) × (leaves + count ≤ 231) ⌝ }
+    requires { ⌜ (length (now work) ≡ workWords) × (copy < mostCopies) × (leaves + count ≤ mostLeaves) ⌝ }
     requires { ⌜ count ≡ length (hanging entered 1 (drop 1 (ownWords (now file) start))) ⌝ }
     ensures { λ _. ⌜ now (work .exit) ≡ hung copy parent rest leaves (hanging entered 1 (drop 1 (ownWords (now (file .entry)) start))) (now (work .entry)) ⌝ }
 {
@@ -95,29 +96,29 @@ fn hang(
 
 // The reference of the literal of a leaf, its parent, and the next open leaf right of it, by the leaf's head.
 pub fn literal_of(work: &[u32], head: u32) -> u32
-    requires { ⌜ (length (now work) ≡ 16384) × (0 < head) × (head ≤ 231) ⌝ }
+    requires { ⌜ (length (now work) ≡ workWords) × (0 < head) × (head ≤ mostLeaves) ⌝ }
     ensures { λ r. ⌜ r ≡ literalAt (now (work .entry)) (head - 1) ⌝ }
 {
     work[memory::LITERAL + fields::wide(head - 1)]
 }
 
 pub fn parent_of(work: &[u32], head: u32) -> u32
-    requires { ⌜ (length (now work) ≡ 16384) × (0 < head) × (head ≤ 231) ⌝ }
+    requires { ⌜ (length (now work) ≡ workWords) × (0 < head) × (head ≤ mostLeaves) ⌝ }
     ensures { λ r. ⌜ r ≡ parentAt (now (work .entry)) (head - 1) ⌝ }
 {
     work[memory::PARENT + fields::wide(head - 1)]
 }
 
 pub fn right_of(work: &[u32], head: u32) -> u32
-    requires { ⌜ (length (now work) ≡ 16384) × (0 < head) × (head ≤ 231) ⌝ }
+    requires { ⌜ (length (now work) ≡ workWords) × (0 < head) × (head ≤ mostLeaves) ⌝ }
     ensures { λ r. ⌜ r ≡ nextAt (now (work .entry)) (head - 1) ⌝ }
 {
     work[memory::NEXT + fields::wide(head - 1)]
 }
 
 fn note_step(work: &mut [u32], steps: u32, step: u32)
-    requires { ⌜ (length (now work) ≡ 16384) × (steps < 231) ⌝ }
-    ensures { λ _. ⌜ now (work .exit) ≡ set (now (work .entry)) (1984 + steps) step ⌝ }
+    requires { ⌜ (length (now work) ≡ workWords) × (steps < mostLeaves) ⌝ }
+    ensures { λ _. ⌜ now (work .exit) ≡ set (now (work .entry)) (stepPlaces + steps) step ⌝ }
 {
     work[memory::STEPS + fields::wide(steps)] = step;
 }
@@ -132,7 +133,7 @@ fn literals_at(file: &[u32], start: u32) -> u32
 
 // The start: a copy of the question, its literals the open leaves. Leaves and steps are written before they are read, and not cleared.
 pub fn begin(file: &[u32], work: &mut [u32], question: u32) -> Place
-    requires { ⌜ (length (now work) ≡ 16384) × ClauseAt (now file) question ⌝ }
+    requires { ⌜ (length (now work) ≡ workWords) × ClauseAt (now file) question ⌝ }
     ensures { λ r. ⌜ Begun (now (file .entry)) (now (work .exit)) question r × NotesKept (now (work .entry)) (now (work .exit)) ⌝ }
 {
     memory::clear(work, 0, memory::LITERAL);
@@ -168,7 +169,7 @@ pub fn reduce(file: &[u32], work: &mut [u32], place: Place, ancestor: u32, step:
 
 // One more copy, and the step that makes it.
 fn open_copy(work: &mut [u32], start: u32, steps: u32, step: u32) -> u32
-    requires { ⌜ (length (now work) ≡ 16384) × (copiesOf (now work) < 33) × (steps < 231) ⌝ }
+    requires { ⌜ (length (now work) ≡ workWords) × (copiesOf (now work) < mostCopies) × (steps < mostLeaves) ⌝ }
     ensures { λ r. ⌜ (r ≡ copiesOf (now (work .entry))) × (now (work .exit) ≡ opened (now (work .entry)) start steps step) ⌝ }
 {
     let copy = work[memory::COPIES];
@@ -188,7 +189,7 @@ fn hang_under(
     offset: u32,
     count: u32,
 ) -> Place
-    requires { ⌜ (length (now work) ≡ 16384) × (copy < 33) × (0 < place .head) × (place .head ≤ place .leaves) × (place .leaves < 231) × (place .leaves + count ≤ 231) × (place .steps < 231) ⌝ }
+    requires { ⌜ (length (now work) ≡ workWords) × (copy < mostCopies) × (0 < place .head) × (place .head ≤ place .leaves) × (place .leaves < mostLeaves) × (place .leaves + count ≤ mostLeaves) × (place .steps < mostLeaves) ⌝ }
     requires { ⌜ count ≡ length (hangingAt (now file) start offset) ⌝ }
     ensures { λ r. ⌜ (r ≡ placeUnder (now (file .entry)) (now (work .entry)) place start offset) × (now (work .exit) ≡ hungUnder (now (file .entry)) (now (work .entry)) place start copy offset) ⌝ }
 {

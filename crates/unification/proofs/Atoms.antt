@@ -17,7 +17,8 @@ use Rattle.rules.specs.Machinery.Unify.{unify, unifies}
 use Rattle.rules.proofs.Unify.Tests.{decide}
 use Rattle.rules.proofs.Unify.Laws.{unify-applied}
 use Rattle.rules.proofs.Unify.Solution.{follow-app}
-use Rattle.unification.specs.State.{startAt, copiesOf, ownWords, wordsAt, Owing, termsOf, literalAtReference, bound}
+use Rattle.unification.specs.Places.{workWords, mostCopies}
+use Rattle.unification.specs.State.{startAt, copiesOf, ownWords, wordsAt, Owing, termsOf, literalAtReference, bindingsIn}
 use Rattle.unification.specs.Good.{wordAt, Inside, Ahead, LiteralStands, Alike, Good, Met}
 use Rattle.unification.specs.declared.unify.Meeting.{Meeting}
 use Rattle.unification.proofs.TermLists.{arity-under}
@@ -39,7 +40,7 @@ module _ {f m : List ℕ} {r : ℕ} (p : LiteralStands f m r) where
       (λ e. ltb-true _ _ e)
       (λ e. absurd (some-literal _ (p .literals) (p .place) (rw (drop-of-length-le (ownWords f (startAt m (r / 256))) (ltb-false _ _ e)) at (p .sound))))
 
-  pub literal-inside : length m ≡ 16384 → copiesOf m ≤ 33 → Inside f m r
+  pub literal-inside : length m ≡ workWords → copiesOf m ≤ mostCopies → Inside f m r
   literal-inside l c = record { size = l; copy = omega (arith, p .made); within = own-inside f m r literal-left }
 
   arguments-fault : fault (variablesAt f m r) (p .literals) (arityOf (wordAt f m r)) (p .place + 1) (further f m r) ≡ none
@@ -84,12 +85,12 @@ module _ {f m : List ℕ} {r s : ℕ} (h : Good f m) (p : Alike f m r s) where
     pub atoms-right : Ahead f m (s + 1) a
     atoms-right = rw right-count (literal-ahead (p .right))
 
-    pub atoms-met : {m′ : List ℕ} {o : Meeting} → Met f m m′ o (unifies (bound f m) (first a (termsOf f m (r + 1))) (first a (termsOf f m (s + 1))))
-        → Met f m m′ o (unify (bound f m) (atom (literalAtReference f m r)) (atom (literalAtReference f m s)))
+    pub atoms-met : {m′ : List ℕ} {o : Meeting} → Met f m m′ o (unifies (bindingsIn f m) (first a (termsOf f m (r + 1))) (first a (termsOf f m (s + 1))))
+        → Met f m m′ o (unify (bindingsIn f m) (atom (literalAtReference f m r)) (atom (literalAtReference f m s)))
     atoms-met b =
         met-as
-        (ap₂ (unify (bound f m)) (literal-atom (p .left)) (literal-atom (p .right))
-        ∙ unify-applied (bound f m) _ _ _ _ _ _ (follow-app (bound f m) _ _) (follow-app (bound f m) _ _) (p .predicate)
+        (ap₂ (unify (bindingsIn f m)) (literal-atom (p .left)) (literal-atom (p .right))
+        ∙ unify-applied (bindingsIn f m) _ _ _ _ _ _ (follow-app (bindingsIn f m) _ _) (follow-app (bindingsIn f m) _ _) (p .predicate)
         (literal-arity (p .left) ∙ p .arity ∙ sym (literal-arity (p .right)))
         ∙ rw (← left-count, ← right-count))
         b

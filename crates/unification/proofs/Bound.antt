@@ -14,6 +14,7 @@ use Rattle.rules.proofs.Unify.Tests.{never, decide, same-true, same-refl, diffe
 use Rattle.rules.proofs.Unify.Solution as bindings
 use Rattle.rules.proofs.Unify.Following.{valueOf}
 use Rattle.rules.proofs.Unify.Heights.{Low}
+use Rattle.unification.specs.Places.{mostVariables, countPlace, mostCopies, copiesPlace, startPlaces}
 use Rattle.unification.specs.State.{startAt, copiesOf, trailAt, boundAt, ClauseAt, wordsAt, termsOf, termOf, Points, variableOf, bindingsOf}
 use Rattle.unification.specs.Good.{Same, isFree, freeBelow, Entry, Held}
 use Rattle.unification.proofs.References.{term-height}
@@ -36,11 +37,11 @@ pub record Copied (m m′ : List ℕ) : Type 0 where
   pub more : copiesOf m ≤ copiesOf m′
   pub starts : (copy : ℕ) → copy < copiesOf m → startAt m′ copy ≡ startAt m copy
 
-pub kept-copied : {m m′ : List ℕ} → copiesOf m ≤ 33 → Same 0 34 m m′ → Copied m m′
+pub kept-copied : {m m′ : List ℕ} → copiesOf m ≤ mostCopies → Same 0 countPlace m m′ → Copied m m′
 kept-copied h s =
     record {
-      more = omega (arith, s .words 33 (omega arith) (omega arith));
-      starts = λ copy l. s .words (0 + copy) (omega arith) (omega arith);
+      more = omega (arith, s .words copiesPlace (omega arith) (omega arith));
+      starts = λ copy l. s .words (startPlaces + copy) (omega arith) (omega arith);
     }
 
 module _ {m m′ : List ℕ} (s : Copied m m′) (f : List ℕ) (r : ℕ) (h : r / 256 < copiesOf m) where
@@ -62,12 +63,12 @@ module _ {m m′ : List ℕ} (s : Copied m m′) (f : List ℕ) (r : ℕ) (h : r
 
 -- each copy is a copy of a clause
 pub record Clauses (f m : List ℕ) : Type 0 where
-  pub few : copiesOf m ≤ 33
+  pub few : copiesOf m ≤ mostCopies
   pub starts : (copy : ℕ) → copy < copiesOf m → ClauseAt f (startAt m copy)
 
-pub kept-clauses : {f m m′ : List ℕ} {n : ℕ} → Held f m n → Same 0 34 m m′ → Clauses f m′
+pub kept-clauses : {f m m′ : List ℕ} {n : ℕ} → Held f m n → Same 0 countPlace m m′ → Clauses f m′
 kept-clauses {f} {m} {m′} h s =
-    let c : copiesOf m′ ≡ copiesOf m = s .words 33 (omega arith) (omega arith) in
+    let c : copiesOf m′ ≡ copiesOf m = s .words copiesPlace (omega arith) (omega arith) in
     record {
       few = rw c (h .copies);
       starts = λ copy l.
@@ -75,7 +76,7 @@ kept-clauses {f} {m} {m′} h s =
           rw (kept-copied (h .copies) s .starts copy l′) (h .starts copy l′);
     }
 
-pub entry-small : {f m : List ℕ} {v : ℕ} → copiesOf m ≤ 33 → Entry f m v → v < 528
+pub entry-small : {f m : List ℕ} {v : ℕ} → copiesOf m ≤ mostCopies → Entry f m v → v < mostVariables
 entry-small h e = omega (arith, e .copy)
 
 -- the variables on the trail are bound, and no others
@@ -120,7 +121,7 @@ value-found f m v (suc n) e = go (sameVariable (variableOf (trailAt m n)) (varia
 
 module _ {f m : List ℕ} {n : ℕ} (h : Held f m n) (v : ℕ) where
   -- a variable with a word is bound to what the word says
-  module _ (small : v < 528) (some : 0 < boundAt m v) where
+  module _ (small : v < mostVariables) (some : 0 < boundAt m v) where
     pub bound-entry : Entry f m v
     bound-entry = let p = place f m v n (h .listed v small some) in rw (p .there) at (h .entries (p .at) (p .below))
 

@@ -11,7 +11,8 @@ use Rattle.table.specs.Syntax.{var}
 use Rattle.rules.specs.Machinery.Unify.{follow}
 use Rattle.rules.proofs.Unify.Solution.{follow-app, follow-unbound}
 use Rattle.rules.proofs.Unify.Following.{valueOf, follow-value}
-use Rattle.unification.specs.State.{boundAt, Points, termOf, variableOf, bound}
+use Rattle.unification.specs.Places.{mostVariables}
+use Rattle.unification.specs.State.{boundAt, Points, termOf, variableOf, bindingsIn}
 use Rattle.unification.specs.Good as state
 use Rattle.unification.specs.Good.{wordAt, variableAt, namesVariable, Inside, FollowedTo}
 use Rattle.unification.proofs.References.{variable-term, variable-copy, function-term}
@@ -22,15 +23,15 @@ use Rattle.unification.proofs.Ranks.{rankOf, value-falls}
 -- how far a term has been followed
 pub record Following (f m : List ℕ) (r at : ℕ) : Type 0 where
   pub points : Points f m at 1
-  pub same : follow (bound f m) (termOf f m at) ≡ follow (bound f m) (termOf f m r)
+  pub same : follow (bindingsIn f m) (termOf f m at) ≡ follow (bindingsIn f m) (termOf f m r)
 
 -- it has come to a variable
 pub record AtVariable (f m : List ℕ) (r at v : ℕ) : Type 0 where
   pub points : Points f m at 1
-  pub same : follow (bound f m) (termOf f m at) ≡ follow (bound f m) (termOf f m r)
+  pub same : follow (bindingsIn f m) (termOf f m at) ≡ follow (bindingsIn f m) (termOf f m r)
   pub named : v ≡ variableAt at (wordAt f m at)
   pub term : termOf f m at ≡ var (variableOf v)
-  pub small : v < 528
+  pub small : v < mostVariables
 
 module _ {f m : List ℕ} {r : ℕ} where
   pub follow-begin : Points f m r 1 → Following f m r r
@@ -46,7 +47,7 @@ module _ {f m : List ℕ} {r : ℕ} where
           let e : kindOf (wordAt f m at) ≡ 0 → ⊥ = λ z. n (ek ∙ ap kindOf ew ∙ z) in
           record {
             points = g .points;
-            same = rw (function-term (g .points) e) (sym (follow-app (bound f m) _ _)) ∙ g .same;
+            same = rw (function-term (g .points) e) (sym (follow-app (bindingsIn f m) _ _)) ∙ g .same;
             free = λ z. absurd (e z);
           }
 
@@ -69,8 +70,8 @@ module _ {f m : List ℕ} {r at v : ℕ} (h : state.Good f m) (g : AtVariable f 
       record {
         points = g .points;
         same =
-            rw (g .term) (sym (follow-unbound (bound f m) (variableOf v) (unbound h v z)))
-            ∙ ap (follow (bound f m)) (sym (g .term)) ∙ g .same;
+            rw (g .term) (sym (follow-unbound (bindingsIn f m) (variableOf v) (unbound h v z)))
+            ∙ ap (follow (bindingsIn f m)) (sym (g .term)) ∙ g .same;
         free = λ _. rw (g .named) at z;
       }
 
@@ -78,7 +79,7 @@ module _ {f m : List ℕ} {r at v : ℕ} (h : state.Good f m) (g : AtVariable f 
     pub follow-positive : 0 < boundAt m v
     follow-positive = omega arith
 
-    value : valueOf (bound f m) (variableOf v) ≡ some (termOf f m (boundAt m v - 1))
+    value : valueOf (bindingsIn f m) (variableOf v) ≡ some (termOf f m (boundAt m v - 1))
     value = bound-value h v (g .small) follow-positive
 
     pub follow-on : Following f m r (boundAt m v - 1)
@@ -86,12 +87,12 @@ module _ {f m : List ℕ} {r at v : ℕ} (h : state.Good f m) (g : AtVariable f 
         record {
           points = bound-entry h v (g .small) follow-positive .points;
           same =
-              sym (follow-value (bound f m) (variableOf v) _ (h .sound) value) ∙ ap (follow (bound f m)) (sym (g .term)) ∙ g .same;
+              sym (follow-value (bindingsIn f m) (variableOf v) _ (h .sound) value) ∙ ap (follow (bindingsIn f m)) (sym (g .term)) ∙ g .same;
         }
 
-    pub follow-falls : rankOf (bound f m) (termOf f m (boundAt m v - 1)) < rankOf (bound f m) (termOf f m at)
+    pub follow-falls : rankOf (bindingsIn f m) (termOf f m (boundAt m v - 1)) < rankOf (bindingsIn f m) (termOf f m at)
     unfolding rankOf
-    follow-falls = rw (g .term) (value-falls (bound f m) (h .sound) (variableOf v) _ value)
+    follow-falls = rw (g .term) (value-falls (bindingsIn f m) (h .sound) (variableOf v) _ value)
 
 -- the variable that a word names
 module _ (r w v : ℕ) {k : ℕ} (ek : k ≡ kindOf w) where

@@ -14,7 +14,8 @@ use Rattle.rules.specs.Substitution.{Variable}
 use Rattle.rules.specs.Machinery.Unify.{solution, height, doubled}
 use Rattle.rules.proofs.Unify.Tests.{decide}
 use Rattle.rules.proofs.Unify.Heights.{heights-under, solution-height, doubled-mono}
-use Rattle.unification.specs.State.{countOf, Points, termOf, termsOf, bindingsOf, bound}
+use Rattle.unification.specs.Places.{mostVariables}
+use Rattle.unification.specs.State.{countOf, Points, termOf, termsOf, bindingsOf, bindingsIn}
 use Rattle.unification.specs.Good.{wordAt, Good, Grown}
 use Rattle.unification.proofs.TermLists.{peak, peak-height, peak-in-place, height-first}
 use Rattle.unification.proofs.References.{tailOf, terms-height, first-terms, function-first, function-further}
@@ -22,34 +23,34 @@ use Rattle.unification.proofs.Bound.{bindings-length, bindings-low}
 
 -- no term is higher under what is bound
 unfoldable pub tallest : ℕ
-tallest = suc (256 + doubled 528 256)
+tallest = suc (256 + doubled mostVariables 256)
 
 abbrev pub peakUnder : List ℕ → List ℕ → ℕ → ℕ → ℕ
-peakUnder f m r n = peak (unders (solution (bound f m)) (first n (termsOf f m r)))
+peakUnder f m r n = peak (unders (solution (bindingsIn f m)) (first n (termsOf f m r)))
 
 abbrev pub heft : List ℕ → List ℕ → ℕ → ℕ → ℕ
-heft f m r n = (528 - countOf m) * tallest + peakUnder f m r n
+heft f m r n = (mostVariables - countOf m) * tallest + peakUnder f m r n
 
 abbrev pub heftOf : List ℕ → List ℕ → ℕ → ℕ
-heftOf f m r = (528 - countOf m) * tallest + height (under (solution (bound f m)) (termOf f m r))
+heftOf f m r = (mostVariables - countOf m) * tallest + height (under (solution (bindingsIn f m)) (termOf f m r))
 
 pub lower : {f m : List ℕ} → Good f m → (r n : ℕ) → peakUnder f m r n < tallest
 unfolding tallest
 lower {f} {m} h r n =
     omega (
       arith,
-      peak-height (unders (solution (bound f m)) (first n (termsOf f m r))),
-      heights-under (first n (termsOf f m r)) (solution (bound f m)) (doubled 528 256) low,
+      peak-height (unders (solution (bindingsIn f m)) (first n (termsOf f m r))),
+      heights-under (first n (termsOf f m r)) (solution (bindingsIn f m)) (doubled mostVariables 256) low,
       height-first n (termsOf f m r),
       terms-height f m r,
     )
   where
-    low : (x : Variable) → height (solution (bound f m) x) ≤ doubled 528 256
+    low : (x : Variable) → height (solution (bindingsIn f m) x) ≤ doubled mostVariables 256
     low x =
         omega (
           arith,
-          solution-height (bound f m) 256 (bindings-low f m (countOf m)) x,
-          doubled-mono (length (bound f m)) 528 256 (omega (arith, bindings-length f m (countOf m), h .room)),
+          solution-height (bindingsIn f m) 256 (bindings-low f m (countOf m)) x,
+          doubled-mono (length (bindingsIn f m)) mostVariables 256 (omega (arith, bindings-length f m (countOf m), h .room)),
         )
 
 -- one of the terms, and those after it
@@ -63,10 +64,10 @@ pub heft-in-place : {f m : List ℕ} {r k : ℕ} → Points f m r (suc k) → (k
 unfolding peak height under
 heft-in-place {f} {m} {r} {k} p e =
     rw (function-first p e, ← function-further p e)
-    (omega (arith, peak-in-place (solution (bound f m)) (arityOf (wordAt f m r)) k (tailOf f m r)))
+    (omega (arith, peak-in-place (solution (bindingsIn f m)) (arityOf (wordAt f m r)) k (tailOf f m r)))
 
 -- as many bindings as before are the same
-pub as-before : {f m m′ : List ℕ} → Grown f m m′ → countOf m ≡ countOf m′ → bound f m′ ≡ bound f m
+pub as-before : {f m m′ : List ℕ} → Grown f m m′ → countOf m ≡ countOf m′ → bindingsIn f m′ ≡ bindingsIn f m
 as-before {f} {m} {m′} g e = ap (bindingsOf f m′) (sym e) ∙ g .older (countOf m) (omega arith)
 
 pub heft-rest : {f m m′ : List ℕ} {r k : ℕ} (r′ : ℕ) → Grown f m m′ → Points f m r (suc k) → termsOf f m′ r′ ≡ rest 1 (termsOf f m r) → heft f m′ r′ k ≤ heft f m r (suc k)
@@ -77,7 +78,7 @@ heft-rest {f} {m} {m′} {r} {k} r′ g p e =
     (λ q. let z : countOf m ≡ countOf m′ = eqb-true _ _ q in rw (as-before g z, e, ← z, first-terms p k) (omega arith))
     (λ q.
     let z : countOf m ≡ countOf m′ → ⊥ = eqb-false _ _ q in
-    let fewer : suc (528 - countOf m′) ≤ 528 - countOf m = omega (arith, g .more, g .good .room) in
+    let fewer : suc (mostVariables - countOf m′) ≤ mostVariables - countOf m = omega (arith, g .more, g .good .room) in
     let product = mul-le-mul-right tallest fewer in
-    let less = suc-mul (528 - countOf m′) tallest in
+    let less = suc-mul (mostVariables - countOf m′) tallest in
     omega (arith, lower (g .good) r′ k, product, less))

@@ -16,7 +16,7 @@ use Rattle.rules.proofs.Unify.{unify-answers}
 use Rattle.rules.proofs.Unify.Tests.{decide, never}
 use Rattle.rules.proofs.Unify.Laws.{unify-same, unify-right, unify-left, unify-applied, unify-clash, unify-arity}
 use Rattle.rules.proofs.Unify.Solution.{follow-followed, follow-solution, follow-app}
-use Rattle.unification.specs.State.{termOf, termsOf, variableOf, bound}
+use Rattle.unification.specs.State.{termOf, termsOf, variableOf, bindingsIn}
 use Rattle.unification.specs.Good.{wordAt, variableAt, namesVariable, Good, FollowedTo, Binds, Met, Outcome}
 use Rattle.unification.specs.Thorough.{Quiet, Other, argumentsMet, Applied, Meets}
 use Rattle.unification.specs.declared.unify.Meeting.{Meeting}
@@ -44,17 +44,17 @@ not-variable f ts x e = let z : _≡_ {A = ℕ} 0 1 = cc in omega arith
 
 module _ {f m n : List ℕ} {left right l r : ℕ} (h : Good f m) (k : Quiet f m n) (gl : FollowedTo f m left l) (gr : FollowedTo f m right r) where
   abbrev Goal : List ℕ → List ℕ → Meeting → Type 0
-  Goal m′ n′ q = Meets f m m′ n n′ q (unify (bound f m) (termOf f m left) (termOf f m right))
+  Goal m′ n′ q = Meets f m m′ n n′ q (unify (bindingsIn f m) (termOf f m left) (termOf f m right))
 
   pub met-same : l ≡ r → Goal m n Made
   met-same e =
       meets-still
       h
       k
-      (unify-answers (bound f m) (h .sound) (termOf f m left) (termOf f m right) .unchanged
-      (sym (follow-solution (bound f m) (termOf f m left) (h .sound))
-      ∙ ap (under (solution (bound f m))) (sym (gl .same) ∙ ap (termOf f m) e ∙ gr .same)
-      ∙ follow-solution (bound f m) (termOf f m right) (h .sound)))
+      (unify-answers (bindingsIn f m) (h .sound) (termOf f m left) (termOf f m right) .unchanged
+      (sym (follow-solution (bindingsIn f m) (termOf f m left) (h .sound))
+      ∙ ap (under (solution (bindingsIn f m))) (sym (gl .same) ∙ ap (termOf f m) e ∙ gr .same)
+      ∙ follow-solution (bindingsIn f m) (termOf f m right) (h .sound)))
 
   module _ {v w : ℕ} (ev : v ≡ wordAt f m l) (ew : w ≡ wordAt f m r) where
     -- the right term is a variable
@@ -65,7 +65,7 @@ module _ {f m n : List ℕ} {left right l r : ℕ} (h : Good f m) (k : Quiet f m
       right-name : y ≡ variableAt r (wordAt f m r)
       right-name = ey ∙ ap (variableAt r) ew
 
-      right-term : follow (bound f m) (termOf f m right) ≡ var (variableOf y)
+      right-term : follow (bindingsIn f m) (termOf f m right) ≡ var (variableOf y)
       right-term = sym (gr .same) ∙ rw right-name (variable-term (gr .points) right-kind (few-variables h (gr .points)))
 
       module _ {q : Bool} (eq : q ≡ namesVariable (kindOf v) l v y) where
@@ -86,7 +86,7 @@ module _ {f m n : List ℕ} {left right l r : ℕ} (h : Good f m) (k : Quiet f m
 
         pub met-variable : q ≡ true → Goal m n Made
         met-variable t =
-            meets-still h k (unify-same (bound f m) _ _ (variableOf y) (sym (gl .same) ∙ left-named (kindOf v) refl (sym eq ∙ t)) right-term)
+            meets-still h k (unify-same (bindingsIn f m) _ _ (variableOf y) (sym (gl .same) ∙ left-named (kindOf v) refl (sym eq ∙ t)) right-term)
 
         module _ (t : q ≡ false) where
           pub right-binds : Binds f m y l
@@ -95,22 +95,22 @@ module _ {f m n : List ℕ} {left right l r : ℕ} (h : Good f m) (k : Quiet f m
                 copy = omega (arith, right-name, variable-copy (gr .points) right-kind (few-variables h (gr .points)), gr .points .made);
                 free = rw right-name (gr .free right-kind);
                 points = gl .points;
-                followed = rw (gl .same) (follow-followed (bound f m) (h .sound) (termOf f m left));
+                followed = rw (gl .same) (follow-followed (bindingsIn f m) (h .sound) (termOf f m left));
               }
 
           pub right-apart : Other f m y l
           right-apart = left-other (kindOf v) refl (sym eq ∙ t)
 
-          pub met-right : {m′ n′ : List ℕ} {o : Meeting} → Meets f m m′ n n′ o (bind (bound f m) (variableOf y) (termOf f m l)) → Goal m′ n′ o
+          pub met-right : {m′ n′ : List ℕ} {o : Meeting} → Meets f m m′ n n′ o (bind (bindingsIn f m) (variableOf y) (termOf f m l)) → Goal m′ n′ o
           met-right b =
-              meets-as (unify-right (bound f m) _ _ (termOf f m l) (variableOf y) (sym (gl .same)) right-term right-apart) b
+              meets-as (unify-right (bindingsIn f m) _ _ (termOf f m l) (variableOf y) (sym (gl .same)) right-term right-apart) b
 
     -- the right term is an application
     module _ {i : ℕ} (ei : i ≡ kindOf w) (no : i ≡ 0 → ⊥) where
       right-other : kindOf (wordAt f m r) ≡ 0 → ⊥
       right-other e = no (ei ∙ ap kindOf ew ∙ e)
 
-      right-applied : follow (bound f m) (termOf f m right) ≡ app (symbolOf (wordAt f m r)) (first (arityOf (wordAt f m r)) (termsOf f m (r + 1)))
+      right-applied : follow (bindingsIn f m) (termOf f m right) ≡ app (symbolOf (wordAt f m r)) (first (arityOf (wordAt f m r)) (termsOf f m (r + 1)))
       right-applied = sym (gr .same) ∙ function-term (gr .points) right-other
 
       module _ {j : ℕ} (ej : j ≡ kindOf v) where
@@ -128,16 +128,16 @@ module _ {f m n : List ℕ} {left right l r : ℕ} (h : Good f m) (k : Quiet f m
                 copy = omega (arith, left-name, variable-copy (gl .points) left-kind (few-variables h (gl .points)), gl .points .made);
                 free = rw left-name (gl .free left-kind);
                 points = gr .points;
-                followed = rw (gr .same) (follow-followed (bound f m) (h .sound) (termOf f m right));
+                followed = rw (gr .same) (follow-followed (bindingsIn f m) (h .sound) (termOf f m right));
               }
 
           pub left-apart : Other f m x r
           left-apart e = not-variable _ _ _ (sym (function-term (gr .points) right-other) ∙ e)
 
-          pub met-left : {m′ n′ : List ℕ} {o : Meeting} → Meets f m m′ n n′ o (bind (bound f m) (variableOf x) (termOf f m r)) → Goal m′ n′ o
+          pub met-left : {m′ n′ : List ℕ} {o : Meeting} → Meets f m m′ n n′ o (bind (bindingsIn f m) (variableOf x) (termOf f m r)) → Goal m′ n′ o
           met-left {m′} {n′} {o} b =
               meets-as
-              (unify-left (bound f m) _ _ (variableOf x) _ _
+              (unify-left (bindingsIn f m) _ _ (variableOf x) _ _
               (sym (gl .same) ∙ rw left-name (variable-term (gl .points) left-kind (few-variables h (gl .points)))) right-applied)
               (rw (function-term (gr .points) right-other) at b)
 
@@ -146,7 +146,7 @@ module _ {f m n : List ℕ} {left right l r : ℕ} (h : Good f m) (k : Quiet f m
           left-kind-other : kindOf (wordAt f m l) ≡ 0 → ⊥
           left-kind-other e = d (ej ∙ ap kindOf ev ∙ e)
 
-          left-applied : follow (bound f m) (termOf f m left) ≡ app (symbolOf (wordAt f m l)) (first (arityOf (wordAt f m l)) (termsOf f m (l + 1)))
+          left-applied : follow (bindingsIn f m) (termOf f m left) ≡ app (symbolOf (wordAt f m l)) (first (arityOf (wordAt f m l)) (termsOf f m (l + 1)))
           left-applied = sym (gl .same) ∙ function-term (gl .points) left-kind-other
 
           pub met-clash : v < 2 ^ 32 → w < 2 ^ 32 → (v ≡ w → ⊥) → Goal m n Clash
@@ -156,8 +156,8 @@ module _ {f m n : List ℕ} {left right l r : ℕ} (h : Good f m) (k : Quiet f m
               k
               (decide
               (eqb (symbolOf (wordAt f m l)) (symbolOf (wordAt f m r)))
-              (λ e. unify-arity (bound f m) _ _ _ _ _ _ left-applied right-applied (λ a. ne (words (eqb-true _ _ e) (sym (function-arity (gl .points) left-kind-other) ∙ a ∙ function-arity (gr .points) right-other))))
-              (λ e. unify-clash (bound f m) _ _ _ _ _ _ left-applied right-applied (eqb-false _ _ e)))
+              (λ e. unify-arity (bindingsIn f m) _ _ _ _ _ _ left-applied right-applied (λ a. ne (words (eqb-true _ _ e) (sym (function-arity (gl .points) left-kind-other) ∙ a ∙ function-arity (gr .points) right-other))))
+              (λ e. unify-clash (bindingsIn f m) _ _ _ _ _ _ left-applied right-applied (eqb-false _ _ e)))
             where
               words : symbolOf (wordAt f m l) ≡ symbolOf (wordAt f m r) → arityOf (wordAt f m l) ≡ arityOf (wordAt f m r) → v ≡ w
               words s a =
@@ -169,13 +169,13 @@ module _ {f m n : List ℕ} {left right l r : ℕ} (h : Good f m) (k : Quiet f m
             same-word : wordAt f m l ≡ wordAt f m r
             same-word = sym ev ∙ e ∙ ew
 
-            met-arguments : (s t : Term Variable) → follow (bound f m) s ≡ app (symbolOf (wordAt f m l)) (first (arityOf (wordAt f m l)) (termsOf f m (l + 1)))
-                → follow (bound f m) t ≡ app (symbolOf (wordAt f m r)) (first (arityOf (wordAt f m r)) (termsOf f m (r + 1)))
-                → unify (bound f m) s t ≡ argumentsMet f m l r
+            met-arguments : (s t : Term Variable) → follow (bindingsIn f m) s ≡ app (symbolOf (wordAt f m l)) (first (arityOf (wordAt f m l)) (termsOf f m (l + 1)))
+                → follow (bindingsIn f m) t ≡ app (symbolOf (wordAt f m r)) (first (arityOf (wordAt f m r)) (termsOf f m (r + 1)))
+                → unify (bindingsIn f m) s t ≡ argumentsMet f m l r
             met-arguments s t es et =
-                unify-applied (bound f m) _ _ _ _ _ _ es et (ap symbolOf same-word)
+                unify-applied (bindingsIn f m) _ _ _ _ _ _ es et (ap symbolOf same-word)
                 (function-arity (gl .points) left-kind-other ∙ ap arityOf same-word ∙ sym (function-arity (gr .points) right-other))
-                ∙ ap (λ (u : ℕ). unifies (bound f m) (first (arityOf (wordAt f m l)) (termsOf f m (l + 1))) (first (arityOf u) (termsOf f m (r + 1)))) (sym same-word)
+                ∙ ap (λ (u : ℕ). unifies (bindingsIn f m) (first (arityOf (wordAt f m l)) (termsOf f m (l + 1))) (first (arityOf u) (termsOf f m (r + 1)))) (sym same-word)
 
             pub both-applied : Applied f m l r
             both-applied =
@@ -192,16 +192,16 @@ module _ {f m n : List ℕ} {left right l r : ℕ} (h : Good f m) (k : Quiet f m
                       met-arguments
                       (termOf f m l)
                       (termOf f m r)
-                      (ap (follow (bound f m)) (function-term (gl .points) left-kind-other) ∙ follow-app (bound f m) _ _)
-                      (ap (follow (bound f m)) (function-term (gr .points) right-other) ∙ follow-app (bound f m) _ _);
+                      (ap (follow (bindingsIn f m)) (function-term (gl .points) left-kind-other) ∙ follow-app (bindingsIn f m) _ _)
+                      (ap (follow (bindingsIn f m)) (function-term (gr .points) right-other) ∙ follow-app (bindingsIn f m) _ _);
                 }
 
             pub met-falls : 3 * heft f m (l + 1) (arityOf (wordAt f m l)) + 1 < 3 * heftOf f m left + 2
             unfolding height under
             met-falls =
-                let p : height (under (solution (bound f m)) (termOf f m left)) ≡ heightAmong (unders (solution (bound f m)) (first (arityOf (wordAt f m l)) (termsOf f m (l + 1)))) =
-                ap height (sym (follow-solution (bound f m) (termOf f m left) (h .sound)) ∙ ap (under (solution (bound f m))) left-applied) in
-                omega (arith, peak-height (unders (solution (bound f m)) (first (arityOf (wordAt f m l)) (termsOf f m (l + 1)))))
+                let p : height (under (solution (bindingsIn f m)) (termOf f m left)) ≡ heightAmong (unders (solution (bindingsIn f m)) (first (arityOf (wordAt f m l)) (termsOf f m (l + 1)))) =
+                ap height (sym (follow-solution (bindingsIn f m) (termOf f m left) (h .sound)) ∙ ap (under (solution (bindingsIn f m))) left-applied) in
+                omega (arith, peak-height (unders (solution (bindingsIn f m)) (first (arityOf (wordAt f m l)) (termsOf f m (l + 1)))))
 
-            pub met-applied : {m′ n′ : List ℕ} {o : Meeting} → Meets f m m′ n n′ o (unify (bound f m) (termOf f m l) (termOf f m r)) → Goal m′ n′ o
+            pub met-applied : {m′ n′ : List ℕ} {o : Meeting} → Meets f m m′ n n′ o (unify (bindingsIn f m) (termOf f m l) (termOf f m r)) → Goal m′ n′ o
             met-applied b = meets-as (met-arguments (termOf f m left) (termOf f m right) left-applied right-applied ∙ sym (both-applied .same)) b

@@ -8,7 +8,8 @@ use Rattle.table.specs.Syntax.{app, _then_, arity}
 use Rattle.table.specs.Decode.{first, rest}
 use Rattle.rules.specs.Machinery.Unify.{Unified, made, after, unify, unifies}
 use Rattle.rules.proofs.Unify.Laws.{unifies-nil, unifies-then}
-use Rattle.unification.specs.State.{Points, termOf, termsOf, bound}
+use Rattle.unification.specs.Places.{mostReferences}
+use Rattle.unification.specs.State.{Points, termOf, termsOf, bindingsIn}
 use Rattle.unification.specs.Good.{wordAt, argumentsOf, Inside, Ahead, Good, Grown, Passed, Outcome}
 use Rattle.unification.specs.Thorough.{Quiet, Arguments, Noting, Meets}
 use Rattle.unification.specs.declared.unify.Meeting.{Meeting}
@@ -22,7 +23,7 @@ use Rattle.unification.proofs.Heft.{heft, heftOf, heft-first, heft-in-p
 use Rattle.unification.proofs.Thorough.{noting-none, noting-then}
 
 abbrev pub Pairs : List ℕ → List ℕ → ℕ → ℕ → ℕ → Unified
-Pairs f m l r count = unifies (bound f m) (first count (termsOf f m l)) (first count (termsOf f m r))
+Pairs f m l r count = unifies (bindingsIn f m) (first count (termsOf f m l)) (first count (termsOf f m r))
 
 -- so many pairs are left, from two references on
 pub record Going (f m₀ n₀ : List ℕ) (left right count : ℕ) (m n : List ℕ) (l r more : ℕ) : Type 0 where
@@ -47,7 +48,7 @@ module _ {f m₀ n₀ : List ℕ} {left right count : ℕ} where
   module _ {m n : List ℕ} {l r more : ℕ} (g : Going f m₀ n₀ left right count m n l r more) where
     pub all-none : more ≡ 0 → Meets f m₀ m n₀ n Made (Pairs f m₀ left right count)
     unfolding first
-    all-none e = record { grown = g .grown; noting = g .noting; on = λ _. g .quiet; outcome = λ _. rw e at (g .same) ∙ unifies-nil (bound f m) }
+    all-none e = record { grown = g .grown; noting = g .noting; on = λ _. g .quiet; outcome = λ _. rw e at (g .same) ∙ unifies-nil (bindingsIn f m) }
 
     module _ (some : more ≡ 0 → ⊥) where
       one-more : more ≡ suc (more - 1)
@@ -70,10 +71,10 @@ module _ {f m₀ n₀ : List ℕ} {left right count : ℕ} where
           let z : heft f m l more ≡ heft f m l (suc (more - 1)) = ap (heft f m l) one-more in
           omega (arith, heft-first left-points, g .lighter)
 
-      pub all-left-small : l < 8448
+      pub all-left-small : l < mostReferences
       all-left-small = small (g .grown .good) left-points
 
-      pub all-right-small : r < 8448
+      pub all-right-small : r < mostReferences
       all-right-small = small (g .grown .good) right-points
 
       pub all-left-inside : Inside f m l
@@ -114,10 +115,10 @@ module _ {f m₀ n₀ : List ℕ} {left right count : ℕ} where
 
         in-place : Pairs f m l r (suc (more - 1)) ≡ Pairs f m (l + 1) (r + 1) (args + (more - 1))
         in-place =
-            ap₂ (unifies (bound f m)) (function-first left-points applied) right-first
-            ∙ unifies-in-place (symbolOf (wordAt f m l)) args (more - 1) (tailOf f m l) (tailOf f m r) (bound f m) (g .grown .good .sound)
+            ap₂ (unifies (bindingsIn f m)) (function-first left-points applied) right-first
+            ∙ unifies-in-place (symbolOf (wordAt f m l)) args (more - 1) (tailOf f m l) (tailOf f m r) (bindingsIn f m) (g .grown .good .sound)
             (ap arity (function-arguments left-points applied) ∙ function-arity left-points applied ∙ sym right-arity)
-            ∙ ap₂ (unifies (bound f m)) (function-further left-points applied) right-further
+            ∙ ap₂ (unifies (bindingsIn f m)) (function-further left-points applied) right-further
 
         pub all-in-place : {o : ℕ} → o ≡ more - 1 + argumentsOf (kindOf v) v → Going f m₀ n₀ left right count m n (l + 1) (r + 1) o
         all-in-place {o} eo =
@@ -140,13 +141,13 @@ module _ {f m₀ n₀ : List ℕ} {left right count : ℕ} where
             owed = let z : argumentsOf (kindOf v) v ≡ args = rw k (ap arityOf ev) in omega (arith, eo, z)
 
       split : Pairs f m₀ left right count
-          ≡ after (unify (bound f m) (termOf f m l) (termOf f m r)) (λ bs. unifies bs (first (more - 1) (rest 1 (termsOf f m l))) (first (more - 1) (rest 1 (termsOf f m r))))
+          ≡ after (unify (bindingsIn f m) (termOf f m l) (termOf f m r)) (λ bs. unifies bs (first (more - 1) (rest 1 (termsOf f m l))) (first (more - 1) (rest 1 (termsOf f m r))))
       split =
           g .same ∙ ap (Pairs f m l r) one-more
-          ∙ ap₂ (unifies (bound f m)) (first-terms left-points (more - 1)) (first-terms right-points (more - 1))
-          ∙ unifies-then (bound f m) (termOf f m l) (termOf f m r) _ _ (g .grown .good .sound)
+          ∙ ap₂ (unifies (bindingsIn f m)) (first-terms left-points (more - 1)) (first-terms right-points (more - 1))
+          ∙ unifies-then (bindingsIn f m) (termOf f m l) (termOf f m r) _ _ (g .grown .good .sound)
 
-      module _ {m′ n′ : List ℕ} {q : Meeting} (met : Meets f m m′ n n′ q (unify (bound f m) (termOf f m l) (termOf f m r))) where
+      module _ {m′ n′ : List ℕ} {q : Meeting} (met : Meets f m m′ n n′ q (unify (bindingsIn f m) (termOf f m l) (termOf f m r))) where
         grown : Grown f m₀ m′
         grown = grown-then (g .grown) (met .grown)
 
@@ -157,7 +158,7 @@ module _ {f m₀ n₀ : List ℕ} {left right count : ℕ} where
         unfolding after Stops
         all-stops s = record { grown = grown; noting = noting; on = met .on; outcome = λ a. go q s (met .outcome a) }
           where
-            go : (q : Meeting) → Stops q → Outcome f m′ q (unify (bound f m) (termOf f m l) (termOf f m r)) → Outcome f m′ q (Pairs f m₀ left right count)
+            go : (q : Meeting) → Stops q → Outcome f m′ q (unify (bindingsIn f m) (termOf f m l) (termOf f m r)) → Outcome f m′ q (Pairs f m₀ left right count)
             go Made s o = absurd s
             go Clash s o = rw o at split
             go Circle s o = rw o at split
@@ -166,13 +167,13 @@ module _ {f m₀ n₀ : List ℕ} {left right count : ℕ} where
           quiet : Quiet f m′ n′
           quiet = met .on e
 
-          made-so : Pairs f m₀ left right count ≡ unifies (bound f m′) (first (more - 1) (rest 1 (termsOf f m l))) (first (more - 1) (rest 1 (termsOf f m r)))
+          made-so : Pairs f m₀ left right count ≡ unifies (bindingsIn f m′) (first (more - 1) (rest 1 (termsOf f m l))) (first (more - 1) (rest 1 (termsOf f m r)))
           unfolding after
-          made-so = let o : Outcome f m′ Made (unify (bound f m) (termOf f m l) (termOf f m r)) = rw e at (met .outcome (quiet .awake)) in rw o at split
+          made-so = let o : Outcome f m′ Made (unify (bindingsIn f m) (termOf f m l) (termOf f m r)) = rw e at (met .outcome (quiet .awake)) in rw o at split
 
           pub all-last : more - 1 ≡ 0 → Meets f m₀ m′ n₀ n′ Made (Pairs f m₀ left right count)
           unfolding first
-          all-last z = record { grown = grown; noting = noting; on = λ _. quiet; outcome = λ _. rw z at made-so ∙ unifies-nil (bound f m′) }
+          all-last z = record { grown = grown; noting = noting; on = λ _. quiet; outcome = λ _. rw z at made-so ∙ unifies-nil (bindingsIn f m′) }
 
           still : {k n : ℕ} → Points f m k n → (Points f m′ k n) × (termsOf f m′ k ≡ termsOf f m k)
           still {k} p =

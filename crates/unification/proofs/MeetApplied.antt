@@ -9,7 +9,8 @@ use Rattle.table.specs.Syntax.{under}
 use Rattle.rules.specs.Machinery.Unify.{made, solution, unify}
 use Rattle.rules.proofs.Unify.{unify-answers}
 use Rattle.rules.proofs.Unify.Solution.{solution-satisfies}
-use Rattle.unification.specs.State.{termOf, bound}
+use Rattle.unification.specs.Places.{mostReferences}
+use Rattle.unification.specs.State.{termOf, bindingsIn}
 use Rattle.unification.specs.Good.{Good, Outcome}
 use Rattle.unification.specs.Thorough.{Equal, Rooted, Quiet, argumentsMet, Applied, Spent, Meets}
 use Rattle.unification.specs.declared.unify.Meeting.{Meeting}
@@ -22,12 +23,12 @@ use Rattle.unification.proofs.Meet.{meets-as, meets-still}
 
 module _ {f m n : List ℕ} {r s : ℕ} (h : Good f m) (k : Quiet f m n) (p : Applied f m r s) where
   abbrev Goal : List ℕ → List ℕ → Meeting → Type 0
-  Goal m′ n′ q = Meets f m m′ n n′ q (unify (bound f m) (termOf f m r) (termOf f m s))
+  Goal m′ n′ q = Meets f m m′ n n′ q (unify (bindingsIn f m) (termOf f m r) (termOf f m s))
 
-  pub applied-left : r < 8448
+  pub applied-left : r < mostReferences
   applied-left = small h (p .left)
 
-  pub applied-right : s < 8448
+  pub applied-right : s < mostReferences
   applied-right = small h (p .right)
 
   module _ {a b : ℕ} (ga : Rooted n r a) (gb : Rooted n s b) where
@@ -36,8 +37,8 @@ module _ {f m n : List ℕ} {r s : ℕ} (h : Good f m) (k : Quiet f m n) (p : Ap
         meets-still
         h
         k
-        (unify-answers (bound f m) (h .sound) (termOf f m r) (termOf f m s) .unchanged
-        (ga .equal f m (k .links) ∙ ap (λ (t : ℕ). under (solution (bound f m)) (termOf f m t)) e ∙ sym (gb .equal f m (k .links))))
+        (unify-answers (bindingsIn f m) (h .sound) (termOf f m r) (termOf f m s) .unchanged
+        (ga .equal f m (k .links) ∙ ap (λ (t : ℕ). under (solution (bindingsIn f m)) (termOf f m t)) e ∙ sym (gb .equal f m (k .links))))
 
     module _ {n₁ : List ℕ} {q₁ : Bool} (t : Spent n n₁ q₁) where
       pub applied-tired : q₁ ≡ true → Goal m n₁ Clash
@@ -63,14 +64,14 @@ module _ {f m n : List ℕ} {r s : ℕ} (h : Good f m) (k : Quiet f m n) (p : Ap
           quiet : Quiet f m′ n₂
           quiet = met .on e
 
-          so : unify (bound f m) (termOf f m r) (termOf f m s) ≡ made (bound f m′)
-          so = let o : Outcome f m′ Made (unify (bound f m) (termOf f m r) (termOf f m s)) = rw e at (applied-met .outcome (quiet .awake)) in o
+          so : unify (bindingsIn f m) (termOf f m r) (termOf f m s) ≡ made (bindingsIn f m′)
+          so = let o : Outcome f m′ Made (unify (bindingsIn f m) (termOf f m r) (termOf f m s)) = rw e at (applied-met .outcome (quiet .awake)) in o
 
           equal : Equal f m′ r s
           equal =
               rw (same-term (met .grown .kept .copies) f r (omega (arith, applied-left)), same-term (met .grown .kept .copies) f s (omega (arith, applied-right)))
-              (unify-answers (bound f m) (h .sound) (termOf f m r) (termOf f m s) .solutions so (solution (bound f m′)) .0
-              (solution-satisfies (bound f m′) (met .grown .good .sound)) .1)
+              (unify-answers (bindingsIn f m) (h .sound) (termOf f m r) (termOf f m s) .solutions so (solution (bindingsIn f m′)) .0
+              (solution-satisfies (bindingsIn f m′) (met .grown .good .sound)) .1)
 
           roots : Equal f m′ a b
           roots =
@@ -78,7 +79,7 @@ module _ {f m n : List ℕ} {r s : ℕ} (h : Good f m) (k : Quiet f m n) (p : Ap
               ∙ equal
               ∙ equal-grown (met .grown) applied-right (omega (arith, applied-right, gb .low)) (gb .equal f m (k .links))
 
-          linked : {from to : ℕ} → from < 8448 → to < from → Equal f m′ from to → {n₃ : List ℕ} → n₃ ≡ set n₂ (1 + from) (to + 1) → Goal m′ n₃ Made
+          linked : {from to : ℕ} → from < mostReferences → to < from → Equal f m′ from to → {n₃ : List ℕ} → n₃ ≡ set n₂ (1 + from) (to + 1) → Goal m′ n₃ Made
           linked {from} {to} lf lt q en =
               record {
                 grown = met .grown;

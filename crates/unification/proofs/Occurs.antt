@@ -17,7 +17,8 @@ use Rattle.rules.specs.Machinery.Unify.{Bindings, solution, occurs, variables, 
 use Rattle.rules.proofs.Unify.Tests.{decide, never, same-refl}
 use Rattle.rules.proofs.Unify.Solution.{unbound-solution}
 use Rattle.rules.proofs.Unify.Following.{valueOf, solution-value}
-use Rattle.unification.specs.State.{countOf, boundAt, Points, termOf, termsOf, variableOf, bound}
+use Rattle.unification.specs.Places.{mostVariables, mostReferences, markPlaces}
+use Rattle.unification.specs.State.{countOf, boundAt, Points, termOf, termsOf, variableOf, bindingsIn}
 use Rattle.unification.specs.Good.{wordAt, variableAt, argumentsOf, variablesHere, occursIn, occursUnder, Inside, Ahead, Good}
 use Rattle.unification.proofs.TermLists.{All, all-right, occursIn-append, occurs-variables}
 use Rattle.unification.proofs.References.{few, points-fewer, first-terms, step-points, step-variables, variable-copy}
@@ -35,8 +36,8 @@ weightHere bs (suc other) r w = 0
 -- what is left of a term, from a place on
 pub record Looking (f m : List ℕ) (v r at owed : ℕ) : Type 0 where
   pub ahead : Ahead f m at owed
-  pub same : occursUnder f m v (termOf f m r) ≡ occursIn (variableOf v) (solution (bound f m)) (variablesAmong (first owed (termsOf f m at)))
-  pub light : All (λ y. weight (bound f m) (var y) ≤ weight (bound f m) (termOf f m r)) (variablesAmong (first owed (termsOf f m at)))
+  pub same : occursUnder f m v (termOf f m r) ≡ occursIn (variableOf v) (solution (bindingsIn f m)) (variablesAmong (first owed (termsOf f m at)))
+  pub light : All (λ y. weight (bindingsIn f m) (var y) ≤ weight (bindingsIn f m) (termOf f m r)) (variablesAmong (first owed (termsOf f m at)))
 
 -- and what is noted of it
 pub record Seeking (f m n₀ : List ℕ) (v r : ℕ) (n : List ℕ) (at owed : ℕ) : Type 0 where
@@ -46,12 +47,12 @@ pub record Seeking (f m n₀ : List ℕ) (v r : ℕ) (n : List ℕ) (at owed : �
 
 -- a variable stands at a word
 pub record Here (f m : List ℕ) (v at w met : ℕ) : Type 0 where
-  pub small : met < 528
-  pub same : occursIn (variableOf v) (solution (bound f m)) (variablesHere (kindOf w) at w) ≡ occurs (variableOf v) (solution (bound f m) (variableOf met))
-  pub heavy : weightHere (bound f m) (kindOf w) at w ≡ weight (bound f m) (var (variableOf met))
+  pub small : met < mostVariables
+  pub same : occursIn (variableOf v) (solution (bindingsIn f m)) (variablesHere (kindOf w) at w) ≡ occurs (variableOf v) (solution (bindingsIn f m) (variableOf met))
+  pub heavy : weightHere (bindingsIn f m) (kindOf w) at w ≡ weight (bindingsIn f m) (var (variableOf met))
 
 module _ {f m : List ℕ} (h : Good f m) where
-  few-bindings : length (bound f m) < 1024
+  few-bindings : length (bindingsIn f m) < 1024
   few-bindings = omega (arith, bindings-length f m (countOf m), h .room)
 
   module _ {r : ℕ} (v : ℕ) (p : Points f m r 1) where
@@ -63,8 +64,8 @@ module _ {f m : List ℕ} (h : Good f m) where
     look-begin =
         record {
           ahead = λ _. p;
-          same = occurs-variables (termOf f m r) (variableOf v) (solution (bound f m)) ∙ ap (occursIn (variableOf v) (solution (bound f m))) (sym one-term);
-          light = rw one-term (variables-lighter (bound f m) few-bindings (termOf f m r));
+          same = occurs-variables (termOf f m r) (variableOf v) (solution (bindingsIn f m)) ∙ ap (occursIn (variableOf v) (solution (bindingsIn f m))) (sym one-term);
+          light = rw one-term (variables-lighter (bindingsIn f m) few-bindings (termOf f m r));
         }
 
   module _ {v r at owed : ℕ} (g : Looking f m v r at owed) where
@@ -88,7 +89,7 @@ module _ {f m : List ℕ} (h : Good f m) where
       pub look-few : owed ≤ 256
       look-few = omega (arith, few standing)
 
-      pub look-small : at < 8448
+      pub look-small : at < mostReferences
       look-small = small h standing
 
       module _ {w : ℕ} (ew : w ≡ wordAt f m at) where
@@ -97,22 +98,22 @@ module _ {f m : List ℕ} (h : Good f m) where
             ap (λ (k : ℕ). variablesAmong (first k (termsOf f m at))) one-more
             ∙ rw ew (step-variables standing (few-variables h standing))
 
-        heavier : (k : ℕ) (ys : List Variable) → All (λ y. weight (bound f m) (var y) ≤ weight (bound f m) (termOf f m r)) (variablesHere k at w ++ ys)
-            → weightHere (bound f m) k at w ≤ weight (bound f m) (termOf f m r)
+        heavier : (k : ℕ) (ys : List Variable) → All (λ y. weight (bindingsIn f m) (var y) ≤ weight (bindingsIn f m) (termOf f m r)) (variablesHere k at w ++ ys)
+            → weightHere (bindingsIn f m) k at w ≤ weight (bindingsIn f m) (termOf f m r)
         unfolding All
         heavier zero ys a = a .0
         heavier (suc k) ys a = omega arith
 
-        pub look-falls : 3 * weightHere (bound f m) (kindOf w) at w + 1 < 3 * weight (bound f m) (termOf f m r) + 2
+        pub look-falls : 3 * weightHere (bindingsIn f m) (kindOf w) at w + 1 < 3 * weight (bindingsIn f m) (termOf f m r) + 2
         look-falls = omega (arith, heavier (kindOf w) _ (rw left at (g .light)))
 
-        module _ {q : Bool} (eq : q ≡ occursIn (variableOf v) (solution (bound f m)) (variablesHere (kindOf w) at w)) where
+        module _ {q : Bool} (eq : q ≡ occursIn (variableOf v) (solution (bindingsIn f m)) (variablesHere (kindOf w) at w)) where
           split : occursUnder f m v (termOf f m r)
-              ≡ q || occursIn (variableOf v) (solution (bound f m)) (variablesAmong (first (argumentsOf (kindOf w) w + (owed - 1)) (termsOf f m (at + 1))))
+              ≡ q || occursIn (variableOf v) (solution (bindingsIn f m)) (variablesAmong (first (argumentsOf (kindOf w) w + (owed - 1)) (termsOf f m (at + 1))))
           split =
-              g .same ∙ ap (occursIn (variableOf v) (solution (bound f m))) left
-              ∙ occursIn-append (variableOf v) (solution (bound f m)) (variablesHere (kindOf w) at w) _
-              ∙ ap (_|| occursIn (variableOf v) (solution (bound f m)) (variablesAmong (first (argumentsOf (kindOf w) w + (owed - 1)) (termsOf f m (at + 1))))) (sym eq)
+              g .same ∙ ap (occursIn (variableOf v) (solution (bindingsIn f m))) left
+              ∙ occursIn-append (variableOf v) (solution (bindingsIn f m)) (variablesHere (kindOf w) at w) _
+              ∙ ap (_|| occursIn (variableOf v) (solution (bindingsIn f m)) (variablesAmong (first (argumentsOf (kindOf w) w + (owed - 1)) (termsOf f m (at + 1))))) (sym eq)
 
           pub look-found : q ≡ true → true ≡ occursUnder f m v (termOf f m r)
           look-found e = sym (rw e at split)
@@ -128,11 +129,11 @@ module _ {f m : List ℕ} (h : Good f m) where
 
   -- the variable at a word
   module _ (v at w : ℕ) {k : ℕ} (ek : k ≡ kindOf w) where
-    pub at-function : (k ≡ 0 → ⊥) → false ≡ occursIn (variableOf v) (solution (bound f m)) (variablesHere (kindOf w) at w)
+    pub at-function : (k ≡ 0 → ⊥) → false ≡ occursIn (variableOf v) (solution (bindingsIn f m)) (variablesHere (kindOf w) at w)
     unfolding occursIn
     at-function n = go (kindOf w) (λ e. n (ek ∙ e))
       where
-        go : (k : ℕ) → (k ≡ 0 → ⊥) → false ≡ occursIn (variableOf v) (solution (bound f m)) (variablesHere k at w)
+        go : (k : ℕ) → (k ≡ 0 → ⊥) → false ≡ occursIn (variableOf v) (solution (bindingsIn f m)) (variablesHere k at w)
         go zero n = absurd (n refl)
         go (suc k) n = refl
 
@@ -142,29 +143,29 @@ module _ {f m : List ℕ} (h : Good f m) where
         let e : kindOf (wordAt f m at) ≡ 0 = ap kindOf (sym ew) ∙ sym ek ∙ z in
         record {
           small = omega (arith, em, ap (variableAt at) ew, variable-copy p e (few-variables h p), p .made, h .copies);
-          same = rw (sym ek ∙ z, ← em) (or-false (occurs (variableOf v) (solution (bound f m) (variableOf met))));
+          same = rw (sym ek ∙ z, ← em) (or-false (occurs (variableOf v) (solution (bindingsIn f m) (variableOf met))));
           heavy = rw (sym ek ∙ z, ← em);
         }
 
   module _ {v at w met : ℕ} (g : Here f m v at w met) where
-    pub at-same : boundAt m v ≡ 0 → met ≡ v → true ≡ occursIn (variableOf v) (solution (bound f m)) (variablesHere (kindOf w) at w)
+    pub at-same : boundAt m v ≡ 0 → met ≡ v → true ≡ occursIn (variableOf v) (solution (bindingsIn f m)) (variablesHere (kindOf w) at w)
     unfolding occurs
-    at-same free e = sym (g .same ∙ rw (e, unbound-solution (bound f m) (variableOf v) (unbound h v free)) (same-refl (variableOf v)))
+    at-same free e = sym (g .same ∙ rw (e, unbound-solution (bindingsIn f m) (variableOf v) (unbound h v free)) (same-refl (variableOf v)))
 
     module _ {k : ℕ} (ek : k ≡ met) where
       word : boundAt m k ≡ boundAt m met
       word = ap (λ (u : ℕ). boundAt m u) ek
 
-      pub at-free : (met ≡ v → ⊥) → boundAt m k ≡ 0 → false ≡ occursIn (variableOf v) (solution (bound f m)) (variablesHere (kindOf w) at w)
+      pub at-free : (met ≡ v → ⊥) → boundAt m k ≡ 0 → false ≡ occursIn (variableOf v) (solution (bindingsIn f m)) (variablesHere (kindOf w) at w)
       unfolding occurs
       at-free other y =
-          sym (g .same ∙ rw (unbound-solution (bound f m) (variableOf met) (unbound h met (sym word ∙ y))) (variable-differs v met (λ e. other (sym e))))
+          sym (g .same ∙ rw (unbound-solution (bindingsIn f m) (variableOf met) (unbound h met (sym word ∙ y))) (variable-differs v met (λ e. other (sym e))))
 
       module _ (n : boundAt m k ≡ 0 → ⊥) where
         positive : 0 < boundAt m met
         positive = omega (arith, word)
 
-        value : valueOf (bound f m) (variableOf met) ≡ some (termOf f m (boundAt m k - 1))
+        value : valueOf (bindingsIn f m) (variableOf met) ≡ some (termOf f m (boundAt m k - 1))
         value = rw word (bound-value h met (g .small) positive)
 
         pub at-valued : Valued f m met (boundAt m k - 1)
@@ -172,13 +173,13 @@ module _ {f m : List ℕ} (h : Good f m) where
             record {
               small = g .small;
               points = rw word (bound-entry h met (g .small) positive .points);
-              same = solution-value (bound f m) (variableOf met) _ (h .sound) value;
+              same = solution-value (bindingsIn f m) (variableOf met) _ (h .sound) value;
             }
 
-        pub at-falls : 3 * weight (bound f m) (termOf f m (boundAt m k - 1)) + 3 < 3 * weightHere (bound f m) (kindOf w) at w + 1
-        at-falls = omega (arith, value-lighter (bound f m) (h .sound) (variableOf met) _ value, g .heavy)
+        pub at-falls : 3 * weight (bindingsIn f m) (termOf f m (boundAt m k - 1)) + 3 < 3 * weightHere (bindingsIn f m) (kindOf w) at w + 1
+        at-falls = omega (arith, value-lighter (bindingsIn f m) (h .sound) (variableOf met) _ value, g .heavy)
 
-        pub at-on : occursUnder f m v (termOf f m (boundAt m k - 1)) ≡ occursIn (variableOf v) (solution (bound f m)) (variablesHere (kindOf w) at w)
+        pub at-on : occursUnder f m v (termOf f m (boundAt m k - 1)) ≡ occursIn (variableOf v) (solution (bindingsIn f m)) (variablesHere (kindOf w) at w)
         at-on = ap (occurs (variableOf v)) (sym (at-valued .same)) ∙ sym (g .same)
 
 -- and what is noted on the way
@@ -200,7 +201,7 @@ module _ {f m : List ℕ} (h : Good f m) where
     seek-done e = record { noting = g .noting; on = λ _. g .checking; outcome = λ _. look-done h (g .looking) e }
 
     module _ (some : owed ≡ 0 → ⊥) {w : ℕ} (ew : w ≡ wordAt f m at) {n′ : List ℕ} {q : Bool}
-        (l : Looked f m n n′ v q (occursIn (variableOf v) (solution (bound f m)) (variablesHere (kindOf w) at w))) where
+        (l : Looked f m n n′ v q (occursIn (variableOf v) (solution (bindingsIn f m)) (variablesHere (kindOf w) at w))) where
       pub seek-found : q ≡ true → Looked f m n₀ n′ v true (occursUnder f m v (termOf f m r))
       seek-found e = found (noting-then (g .noting) (l .noting)) (λ a. look-found h (g .looking) some ew (l .outcome a) e)
 
@@ -214,31 +215,31 @@ module _ {f m : List ℕ} (h : Good f m) where
           }
 
 -- a variable that was looked into in vain is marked
-checking-mark : {f m n n′ : List ℕ} {v met : ℕ} → Checking f m n v → met < 528 → occurs (variableOf v) (solution (bound f m) (variableOf met)) ≡ false
-    → n′ ≡ set n (8449 + met) (v + 1) → Checking f m n′ v
+checking-mark : {f m n n′ : List ℕ} {v met : ℕ} → Checking f m n v → met < mostVariables → occurs (variableOf v) (solution (bindingsIn f m) (variableOf met)) ≡ false
+    → n′ ≡ set n (markPlaces + met) (v + 1) → Checking f m n′ v
 checking-mark {f} {m} {n} {n′} {v} {met} c lm absent en =
     record {
       notes =
           record {
             down = down-same (λ i p l. other i (λ d. omega arith)) (c .notes .down);
             links = links-same (λ i p l. other i (λ d. omega arith)) (c .notes .links);
-            marks = λ y u ly lu e z. decide (eqb y met) (λ d. here y u (eqb-true y met d) e) (λ d. c .notes .marks y u ly lu (sym (other (8449 + y) (λ k. eqb-false y met d (omega arith))) ∙ e) z);
+            marks = λ y u ly lu e z. decide (eqb y met) (λ d. here y u (eqb-true y met d) e) (λ d. c .notes .marks y u ly lu (sym (other (markPlaces + y) (λ k. eqb-false y met d (omega arith))) ∙ e) z);
             awake = let z = other 0 (λ d. omega arith) in omega (arith, c .notes .awake);
           };
       free = c .free;
       small = c .small;
     }
   where
-    other : (i : ℕ) → (i ≡ 8449 + met → ⊥) → getD n′ i 0 ≡ getD n i 0
-    other i d = ap (λ (l : List ℕ). getD l i 0) en ∙ getD-set-other n (8449 + met) i (v + 1) 0 d
+    other : (i : ℕ) → (i ≡ markPlaces + met → ⊥) → getD n′ i 0 ≡ getD n i 0
+    other i d = ap (λ (l : List ℕ). getD l i 0) en ∙ getD-set-other n (markPlaces + met) i (v + 1) 0 d
 
     here : (y u : ℕ) → y ≡ met → markAt n′ y ≡ u + 1 → Absent f m v u y
     here y u d e =
-        let e′ : getD (set n (8449 + met) (v + 1)) (8449 + met) 0 ≡ u + 1 = rw (en, d) at e in
-        (omega (arith, set-here n (8449 + met) (v + 1) (omega arith)), rw d absent)
+        let e′ : getD (set n (markPlaces + met) (v + 1)) (markPlaces + met) 0 ≡ u + 1 = rw (en, d) at e in
+        (omega (arith, set-here n (markPlaces + met) (v + 1) (omega arith)), rw d absent)
 
 module _ {f m n : List ℕ} {v met r : ℕ} (c : Checking f m n v) (y : Valued f m met r) where
-  through : occurs (variableOf v) (solution (bound f m) (variableOf met)) ≡ occursUnder f m v (termOf f m r)
+  through : occurs (variableOf v) (solution (bindingsIn f m) (variableOf met)) ≡ occursUnder f m v (termOf f m r)
   through = ap (occurs (variableOf v)) (y .same)
 
   pub through-marked : {q : Bool} → (q ≡ true → markAt n met ≡ v + 1) → q ≡ true → Looked f m n n v false (occursUnder f m v (termOf f m r))
@@ -255,12 +256,12 @@ module _ {f m n : List ℕ} {v met r : ℕ} (c : Checking f m n v) (y : Valued f
       pub through-found : q₂ ≡ true → Looked f m n n₂ v true (occursUnder f m v (termOf f m r))
       through-found e = found (noting-then (s .noting) (l .noting)) (λ a. sym e ∙ l .outcome a)
 
-      pub through-absent : q₂ ≡ false → {n₃ : List ℕ} → n₃ ≡ set n₂ (8449 + met) (v + 1) → Looked f m n n₃ v false (occursUnder f m v (termOf f m r))
+      pub through-absent : q₂ ≡ false → {n₃ : List ℕ} → n₃ ≡ set n₂ (markPlaces + met) (v + 1) → Looked f m n n₃ v false (occursUnder f m v (termOf f m r))
       through-absent e en =
           let k = l .on e in
           let z : false ≡ occursUnder f m v (termOf f m r) = sym e ∙ l .outcome (k .notes .awake) in
           record {
-            noting = noting-then (noting-then (s .noting) (l .noting)) (noting-set (8449 + met) (v + 1) (omega arith) en);
+            noting = noting-then (noting-then (s .noting) (l .noting)) (noting-set (markPlaces + met) (v + 1) (omega arith) en);
             on = λ _. checking-mark k (y .small) (through ∙ sym z) en;
             outcome = λ _. z;
           }

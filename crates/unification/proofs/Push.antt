@@ -9,7 +9,8 @@ use native.Mathlib.Omega.{arith}
 use Prim.Native.Nat.{ℕ, suc, _+_, _-_, _<_, _≤_}
 use Rattle.rules.specs.Machinery.Unify.{bind}
 use Rattle.rules.proofs.Unify.Laws.{bind-made, bind-circle}
-use Rattle.unification.specs.State.{copiesOf, countOf, trailAt, boundAt, termOf, variableOf, bound}
+use Rattle.unification.specs.Places.{mostVariables, mostReferences, valuePlaces, countPlace, trailPlaces, workWords, mostCopies}
+use Rattle.unification.specs.State.{copiesOf, countOf, trailAt, boundAt, termOf, variableOf, bindingsIn}
 use Rattle.unification.specs.Good.{Same, Good, Kept, Grown, pushed, Binds, Met, occursUnder}
 use Rattle.unification.specs.declared.unify.Meeting.the-variants.{Made, Circle}
 use Rattle.unification.proofs.Bound.{free-some, kept-copied, kept-clauses, entry-small}
@@ -52,28 +53,28 @@ grown-then g h =
     }
 
 -- the words of one more binding
-module _ (m : List ℕ) (v r : ℕ) (size : length m ≡ 16384) (room : countOf m < 528) (small : v < 528) where
-  pushed-other : (i : ℕ) → (i ≡ 34 → ⊥) → (i ≡ 64 + countOf m → ⊥) → (i ≡ 640 + v → ⊥) → getD (pushed m v r) i 0 ≡ getD m i 0
+module _ (m : List ℕ) (v r : ℕ) (size : length m ≡ workWords) (room : countOf m < mostVariables) (small : v < mostVariables) where
+  pushed-other : (i : ℕ) → (i ≡ countPlace → ⊥) → (i ≡ trailPlaces + countOf m → ⊥) → (i ≡ valuePlaces + v → ⊥) → getD (pushed m v r) i 0 ≡ getD m i 0
   pushed-other i a b c =
-      getD-set-other (set (set m (64 + countOf m) v) (640 + v) (r + 1)) 34 i (countOf m + 1) 0 a
-      ∙ getD-set-other (set m (64 + countOf m) v) (640 + v) i (r + 1) 0 c
-      ∙ getD-set-other m (64 + countOf m) i v 0 b
+      getD-set-other (set (set m (trailPlaces + countOf m) v) (valuePlaces + v) (r + 1)) countPlace i (countOf m + 1) 0 a
+      ∙ getD-set-other (set m (trailPlaces + countOf m) v) (valuePlaces + v) i (r + 1) 0 c
+      ∙ getD-set-other m (trailPlaces + countOf m) i v 0 b
 
   pub pushed-count : countOf (pushed m v r) ≡ suc (countOf m)
   pushed-count =
-      getD-set-same (set (set m (64 + countOf m) v) (640 + v) (r + 1)) 34 (countOf m + 1) 0 (simp length-set (omega arith))
+      getD-set-same (set (set m (trailPlaces + countOf m) v) (valuePlaces + v) (r + 1)) countPlace (countOf m + 1) 0 (simp length-set (omega arith))
       ∙ add-one (countOf m)
 
   pushed-last : trailAt (pushed m v r) (countOf m) ≡ v
   pushed-last =
-      getD-set-other (set (set m (64 + countOf m) v) (640 + v) (r + 1)) 34 (64 + countOf m) (countOf m + 1) 0 (λ e. omega arith)
-      ∙ getD-set-other (set m (64 + countOf m) v) (640 + v) (64 + countOf m) (r + 1) 0 (λ e. omega arith)
-      ∙ getD-set-same m (64 + countOf m) v 0 (omega arith)
+      getD-set-other (set (set m (trailPlaces + countOf m) v) (valuePlaces + v) (r + 1)) countPlace (trailPlaces + countOf m) (countOf m + 1) 0 (λ e. omega arith)
+      ∙ getD-set-other (set m (trailPlaces + countOf m) v) (valuePlaces + v) (trailPlaces + countOf m) (r + 1) 0 (λ e. omega arith)
+      ∙ getD-set-same m (trailPlaces + countOf m) v 0 (omega arith)
 
   pub pushed-here : boundAt (pushed m v r) v ≡ r + 1
   pushed-here =
-      getD-set-other (set (set m (64 + countOf m) v) (640 + v) (r + 1)) 34 (640 + v) (countOf m + 1) 0 (λ e. omega arith)
-      ∙ getD-set-same (set m (64 + countOf m) v) (640 + v) (r + 1) 0 (simp length-set (omega arith))
+      getD-set-other (set (set m (trailPlaces + countOf m) v) (valuePlaces + v) (r + 1)) countPlace (valuePlaces + v) (countOf m + 1) 0 (λ e. omega arith)
+      ∙ getD-set-same (set m (trailPlaces + countOf m) v) (valuePlaces + v) (r + 1) 0 (simp length-set (omega arith))
 
   pub pushed-kept : Kept m (pushed m v r)
   pushed-kept =
@@ -84,28 +85,28 @@ module _ (m : List ℕ) (v r : ℕ) (size : length m ≡ 16384) (room : countOf 
         leaves = record { words = λ i l k. pushed-other i (λ e. omega arith) (λ e. omega arith) (λ e. omega arith) };
       }
 
-  pub pushed-change : copiesOf m ≤ 33 → Change m (pushed m v r) (countOf m) v
+  pub pushed-change : copiesOf m ≤ mostCopies → Change m (pushed m v r) (countOf m) v
   pushed-change few =
       record {
         size = simp length-set;
         copied = kept-copied few (pushed-kept .copies);
-        trail = λ i l. pushed-other (64 + i) (λ e. omega arith) (λ e. omega arith) (λ e. omega arith);
-        others = λ u l d. pushed-other (640 + u) (λ e. omega arith) (λ e. omega arith) (λ e. d (omega arith));
+        trail = λ i l. pushed-other (trailPlaces + i) (λ e. omega arith) (λ e. omega arith) (λ e. omega arith);
+        others = λ u l d. pushed-other (valuePlaces + u) (λ e. omega arith) (λ e. omega arith) (λ e. d (omega arith));
       }
 
 module _ {f m : List ℕ} {v r : ℕ} (h : Good f m) (b : Binds f m v r) where
-  pub bind-small : v < 528
+  pub bind-small : v < mostVariables
   bind-small = omega (arith, b .copy, h .copies)
 
-  pub bind-room : countOf m < 528
-  bind-room = omega (arith, h .room, free-some m v 528 bind-small (b .free))
+  pub bind-room : countOf m < mostVariables
+  bind-room = omega (arith, h .room, free-some m v mostVariables bind-small (b .free))
 
-  pub bind-reference : r < 8448
+  pub bind-reference : r < mostReferences
   bind-reference = small h (b .points)
 
   module _ {q : Bool} (eq : q ≡ occursUnder f m v (termOf f m r)) where
-    pub bind-occurs : q ≡ true → Met f m m Circle (bind (bound f m) (variableOf v) (termOf f m r))
-    bind-occurs e = record { grown = grown-none h; outcome = bind-circle (bound f m) (variableOf v) (termOf f m r) (sym eq ∙ e) }
+    pub bind-occurs : q ≡ true → Met f m m Circle (bind (bindingsIn f m) (variableOf v) (termOf f m r))
+    bind-occurs e = record { grown = grown-none h; outcome = bind-circle (bindingsIn f m) (variableOf v) (termOf f m r) (sym eq ∙ e) }
 
     module _ (e : q ≡ false) where
       change : Change m (pushed m v r) (countOf m) v
@@ -133,12 +134,12 @@ module _ {f m : List ℕ} {v r : ℕ} (h : Good f m) (b : Binds f m v r) where
                 change .others _ (entry-small (h .copies) t) (λ z. omega (arith, rw z at (t .bound), b .free));
           }
 
-      pushed-bound : bound f (pushed m v r) ≡ record { variable = variableOf v; value = termOf f m r } ∷ bound f m
+      pushed-bound : bindingsIn f (pushed m v r) ≡ record { variable = variableOf v; value = termOf f m r } ∷ bindingsIn f m
       pushed-bound = rw count (push-bindings h change r (b .free) (b .copy) here last (b .points))
 
-      pub bind-pushed : {m′ : List ℕ} → m′ ≡ pushed m v r → Met f m m′ Made (bind (bound f m) (variableOf v) (termOf f m r))
+      pub bind-pushed : {m′ : List ℕ} → m′ ≡ pushed m v r → Met f m m′ Made (bind (bindingsIn f m) (variableOf v) (termOf f m r))
       bind-pushed {m′} em =
           record {
             grown = rw em pushed-grown;
-            outcome = rw (em, pushed-bound) (bind-made (bound f m) (variableOf v) (termOf f m r) (sym eq ∙ e));
+            outcome = rw (em, pushed-bound) (bind-made (bindingsIn f m) (variableOf v) (termOf f m r) (sym eq ∙ e));
           }

@@ -17,6 +17,7 @@ use Rattle.table.proofs.Bools.{and-left}
 use Rattle.rules.specs.Substitution.{Variable}
 use Rattle.rules.specs.Tableau.{fresh}
 use Rattle.rules.specs.Machinery.Unify.{variables, variablesAmong, height, heightAmong}
+use Rattle.unification.specs.Places.{workWords, mostCopies}
 use Rattle.unification.specs.State.{startAt, copiesOf, ownWords, ClauseAt, wordsAt, termsOf, termOf, Owing, Points, variableOf}
 use Rattle.unification.specs.Good.{wordAt, variableAt, argumentsOf, variablesHere, Inside, Ahead}
 use Rattle.unification.proofs.TermLists.{rest-rest, arity-first, arity-under, first-under, rest-under, variables-first}
@@ -112,7 +113,7 @@ module _ {f m : List ℕ} {r n : ℕ} (p : Points f m r (suc n)) where
   here : Begins (variablesAt f m r) n (wordAt f m r) (further f m r)
   here = begins (rw (words-here f m r some-left) at (p .owing))
 
-  pub points-inside : length m ≡ 16384 → copiesOf m ≤ 33 → Inside f m r
+  pub points-inside : length m ≡ workWords → copiesOf m ≤ mostCopies → Inside f m r
   points-inside l c = record { size = l; copy = omega (arith, p .made); within = own-inside f m r some-left }
 
   pub few : suc n ≤ 256

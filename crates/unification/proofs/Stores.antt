@@ -11,7 +11,8 @@ use Rattle.table.specs.Syntax.{under}
 use Rattle.rules.specs.Machinery.Unify.{Binding, solution, occurs}
 use Rattle.rules.proofs.Unify.Tests.{never, decide, same-refl}
 use Rattle.rules.proofs.Unify.Solution as bindings
-use Rattle.unification.specs.State.{startAt, copiesOf, trailAt, boundAt, ClauseAt, termOf, Points, variableOf, bindingsOf, bound}
+use Rattle.unification.specs.Places.{mostVariables, mostCopies}
+use Rattle.unification.specs.State.{startAt, copiesOf, trailAt, boundAt, ClauseAt, termOf, Points, variableOf, bindingsOf, bindingsIn}
 use Rattle.unification.specs.Good.{Same, Entry, Held, Good}
 use Rattle.unification.proofs.Bound.{variable-differs, Copied, Clauses, same-term, same-points, entry-small, on-trail, free-same, free-one, unbound}
 
@@ -20,9 +21,9 @@ pub record Change (m m′ : List ℕ) (n v : ℕ) : Type 0 where
   pub size : length m′ ≡ length m
   pub copied : Copied m m′
   pub trail : (i : ℕ) → i < n → trailAt m′ i ≡ trailAt m i
-  pub others : (u : ℕ) → u < 528 → (u ≡ v → ⊥) → boundAt m′ u ≡ boundAt m u
+  pub others : (u : ℕ) → u < mostVariables → (u ≡ v → ⊥) → boundAt m′ u ≡ boundAt m u
 
-module _ {m m′ : List ℕ} {n v : ℕ} (c : Change m m′ n v) (f : List ℕ) (copies : copiesOf m ≤ 33) where
+module _ {m m′ : List ℕ} {n v : ℕ} (c : Change m m′ n v) (f : List ℕ) (copies : copiesOf m ≤ mostCopies) where
   kept-entry : (t : ℕ) → (t ≡ v → ⊥) → Entry f m t → Entry f m′ t
   kept-entry t d e =
       let same : boundAt m′ t ≡ boundAt m t = c .others t (entry-small copies e) d in
@@ -46,12 +47,12 @@ module _ {m m′ : List ℕ} {n v : ℕ} (c : Change m m′ n v) (f : List ℕ) 
     kept-entries i l = rw (c .trail i l) (kept-entry (trailAt m i) (apart i l) (entries i l))
 
 -- no binding changes
-module _ {f m m′ : List ℕ} {n : ℕ} (h : Held f m n) (c : Change m m′ n 528) where
-  inside-528 : (i : ℕ) → i < n → trailAt m i ≡ 528 → ⊥
-  inside-528 i l e = omega (arith, entry-small (h .copies) (h .entries i l), e)
+module _ {f m m′ : List ℕ} {n : ℕ} (h : Held f m n) (c : Change m m′ n mostVariables) where
+  trail-inside : (i : ℕ) → i < n → trailAt m i ≡ mostVariables → ⊥
+  trail-inside i l e = omega (arith, entry-small (h .copies) (h .entries i l), e)
 
   pub same-bindings : (k : ℕ) → k ≤ n → bindingsOf f m′ k ≡ bindingsOf f m k
-  same-bindings = kept-bindings c f (h .copies) inside-528 (h .entries)
+  same-bindings = kept-bindings c f (h .copies) trail-inside (h .entries)
 
   pub same-held : Clauses f m′ → Held f m′ n
   same-held k =
@@ -59,9 +60,9 @@ module _ {f m m′ : List ℕ} {n : ℕ} (h : Held f m n) (c : Change m m′ n 5
         size = c .size ∙ h .size;
         copies = k .few;
         starts = k .starts;
-        entries = kept-entries c f (h .copies) inside-528 (h .entries);
+        entries = kept-entries c f (h .copies) trail-inside (h .entries);
         listed = λ v l s. rw (same-bindings n (omega arith)) (h .listed v l (rw (c .others v l (λ e. omega arith)) at s));
-        room = rw (free-same m m′ 528 (λ u l. c .others u l (λ e. omega arith))) (h .room);
+        room = rw (free-same m m′ mostVariables (λ u l. c .others u l (λ e. omega arith))) (h .room);
         sound = rw (same-bindings n (omega arith)) (h .sound);
       }
 
@@ -100,7 +101,7 @@ module _ {f m m′ : List ℕ} {n v : ℕ} (h : Held f m n) (c : Change m m′ n
       (λ e. let z : i ≡ n = eqb-true i n e in rw (z, last) new-entry)
       (λ e. let z : i ≡ n → ⊥ = eqb-false i n e in kept-entries c f (h .copies) new-apart (h .entries) i (omega arith))
 
-  push-listed : (u : ℕ) → u < 528 → 0 < boundAt m′ u → bindings.isBound (new ∷ bindingsOf f m n) (variableOf u) ≡ true
+  push-listed : (u : ℕ) → u < mostVariables → 0 < boundAt m′ u → bindings.isBound (new ∷ bindingsOf f m n) (variableOf u) ≡ true
   unfolding bindings.isBound
   push-listed u l s =
       decide
@@ -120,7 +121,7 @@ module _ {f m m′ : List ℕ} {n v : ℕ} (h : Held f m n) (c : Change m m′ n
           starts = k .starts;
           entries = push-entries;
           listed = λ u l s. rw push-bindings (push-listed u l s);
-          room = omega (arith, h .room, free-one m m′ v 528 (omega (arith, made, h .copies)) free (omega (arith, here)) (λ u l d. c .others u l d));
+          room = omega (arith, h .room, free-one m m′ v mostVariables (omega (arith, made, h .copies)) free (omega (arith, here)) (λ u l d. c .others u l d));
           sound = rw push-bindings (record { unbound = unbound h v free; followed = followed; apart = apart }, h .sound);
         }
 
@@ -136,7 +137,7 @@ module _ {f m m′ : List ℕ} {n : ℕ} (h : Held f m (suc n)) (c : Change m m�
   pub pop-older : (k : ℕ) → k ≤ n → bindingsOf f m′ k ≡ bindingsOf f m k
   pop-older = kept-bindings c f (h .copies) pop-apart old-entries
 
-  pop-listed : (u : ℕ) → u < 528 → 0 < boundAt m′ u → bindings.isBound (bindingsOf f m n) (variableOf u) ≡ true
+  pop-listed : (u : ℕ) → u < mostVariables → 0 < boundAt m′ u → bindings.isBound (bindingsOf f m n) (variableOf u) ≡ true
   unfolding bindings.isBound bindingsOf
   pop-listed u l s =
       decide
@@ -155,6 +156,6 @@ module _ {f m m′ : List ℕ} {n : ℕ} (h : Held f m (suc n)) (c : Change m m�
         starts = k .starts;
         entries = kept-entries c f (h .copies) pop-apart old-entries;
         listed = λ u l s. rw (pop-older n (omega arith)) (pop-listed u l s);
-        room = omega (arith, h .room, free-one m′ m (trailAt m n) 528 (entry-small (h .copies) e) here (e .bound) (λ u l d. sym (c .others u l d)));
+        room = omega (arith, h .room, free-one m′ m (trailAt m n) mostVariables (entry-small (h .copies) e) here (e .bound) (λ u l d. sym (c .others u l d)));
         sound = rw (pop-older n (omega arith)) (h .sound .1);
       }

@@ -14,7 +14,8 @@ use Rattle.rules.specs.Substitution.{Variable}
 use Rattle.rules.specs.Machinery.Unify.{Binding, Bindings, replace, solution}
 use Rattle.rules.proofs.Substitution.{same, under-under}
 use Rattle.rules.proofs.Unify.Tests.{decide}
-use Rattle.unification.specs.State.{countOf, termOf, bindingsOf, bound}
+use Rattle.unification.specs.Places.{mostReferences, markPlaces}
+use Rattle.unification.specs.State.{countOf, termOf, bindingsOf, bindingsIn}
 use Rattle.unification.specs.Good.{Grown}
 use Rattle.unification.specs.Thorough.{spareOf, linkAt, Equal, Down, Links, Rooted, Notes, Quiet, Noting, Spent}
 use Rattle.unification.proofs.KeptStarts.{same-term}
@@ -57,7 +58,7 @@ module _ {n : List ℕ} (a : 0 < spareOf n) where
 pub root-begin : {n : List ℕ} (r : ℕ) → Rooted n r r
 root-begin r = record { low = omega arith; equal = λ f m g. refl }
 
-module _ {n : List ℕ} {r at w : ℕ} (small : r < 8448) (d : Down n) (g : Rooted n r at) (ew : w ≡ at) (some : linkAt n w ≡ 0 → ⊥) where
+module _ {n : List ℕ} {r at w : ℕ} (small : r < mostReferences) (d : Down n) (g : Rooted n r at) (ew : w ≡ at) (some : linkAt n w ≡ 0 → ⊥) where
   link-some : 0 < linkAt n at
   link-some = rw (← ew) (omega arith)
 
@@ -85,15 +86,15 @@ unfolding bindingsOf
 later f m s t k zero e = rw zero-add e
 later f m s t k (suc j) e = rw suc-add (one-more _ (bindingsOf f m (j + k)) s t (later f m s t k j e))
 
-pub equal-grown : {f m m′ : List ℕ} {r s : ℕ} → Grown f m m′ → r < 8448 → s < 8448 → Equal f m r s → Equal f m′ r s
+pub equal-grown : {f m m′ : List ℕ} {r s : ℕ} → Grown f m m′ → r < mostReferences → s < mostReferences → Equal f m r s → Equal f m′ r s
 equal-grown {f} {m} {m′} {r} {s} g lr ls e =
     let z : (countOf m′ - countOf m) + countOf m ≡ countOf m′ = omega (arith, g .more) in
-    let old : bindingsOf f m′ (countOf m) ≡ bound f m = g .older (countOf m) (omega arith) in
+    let old : bindingsOf f m′ (countOf m) ≡ bindingsIn f m = g .older (countOf m) (omega arith) in
     rw (same-term (g .kept .copies) f r (omega arith), same-term (g .kept .copies) f s (omega arith), ← z)
     (later f m′ (termOf f m r) (termOf f m s) (countOf m) (countOf m′ - countOf m) (rw old e))
 
 -- notes that are true stay so
-module _ {n n′ : List ℕ} (e : (i : ℕ) → 0 < i → i < 8449 → getD n′ i 0 ≡ getD n i 0) where
+module _ {n n′ : List ℕ} (e : (i : ℕ) → 0 < i → i < markPlaces → getD n′ i 0 ≡ getD n i 0) where
   pub down-same : Down n → Down n′
   down-same g = record { lower = λ r l p. let z = e (1 + r) (omega arith) (omega arith) in omega (arith, g .lower r l (omega arith)) }
 
@@ -107,11 +108,11 @@ module _ {f m n : List ℕ} {In : ℕ → ℕ → Type 0} (g : Notes f m n In) w
       record {
         down = down-same (λ i p _. e i p) (g .down);
         links = links-same (λ i p _. e i p) (g .links);
-        marks = λ y v ly lv q. g .marks y v ly lv (sym (e (8449 + y) (omega arith)) ∙ q);
+        marks = λ y v ly lv q. g .marks y v ly lv (sym (e (markPlaces + y) (omega arith)) ∙ q);
         awake = a;
       }
 
-  module _ {from to : ℕ} (lf : from < 8448) (lt : to < from) (q : Equal f m from to) {n′ : List ℕ} (en : n′ ≡ set n (1 + from) (to + 1)) where
+  module _ {from to : ℕ} (lf : from < mostReferences) (lt : to < from) (q : Equal f m from to) {n′ : List ℕ} (en : n′ ≡ set n (1 + from) (to + 1)) where
     other : (i : ℕ) → (i ≡ 1 + from → ⊥) → getD n′ i 0 ≡ getD n i 0
     other i d = ap (λ (l : List ℕ). getD l i 0) en ∙ getD-set-other n (1 + from) i (to + 1) 0 d
 
@@ -121,14 +122,14 @@ module _ {f m n : List ℕ} {In : ℕ → ℕ → Type 0} (g : Notes f m n In) w
     elsewhere : (r : ℕ) → (r ≡ from → ⊥) → linkAt n′ r ≡ linkAt n r
     elsewhere r d = other (1 + r) (λ e. d (omega arith))
 
-    lower : (r : ℕ) → r < 8448 → 0 < linkAt n′ r → linkAt n′ r ≤ r
+    lower : (r : ℕ) → r < mostReferences → 0 < linkAt n′ r → linkAt n′ r ≤ r
     lower r l p =
         decide
         (eqb r from)
         (λ e. let z : r ≡ from = eqb-true r from e in let p′ : 0 < linkAt n′ from = rw z at p in rw z (omega (arith, here p′)))
         (λ e. let z = elsewhere r (eqb-false r from e) in omega (arith, g .down .lower r l (omega arith)))
 
-    equal : (r : ℕ) → r < 8448 → 0 < linkAt n′ r → Equal f m r (linkAt n′ r - 1)
+    equal : (r : ℕ) → r < mostReferences → 0 < linkAt n′ r → Equal f m r (linkAt n′ r - 1)
     equal r l p =
         decide
         (eqb r from)
@@ -144,7 +145,7 @@ module _ {f m n : List ℕ} {In : ℕ → ℕ → Type 0} (g : Notes f m n In) w
         record {
           down = record { lower = lower };
           links = record { equal = equal };
-          marks = λ y v ly lv e. g .marks y v ly lv (sym (other (8449 + y) (λ d. omega arith)) ∙ e);
+          marks = λ y v ly lv e. g .marks y v ly lv (sym (other (markPlaces + y) (λ d. omega arith)) ∙ e);
           awake = let z = other 0 (λ d. omega arith) in omega (arith, g .awake);
         }
 
@@ -154,6 +155,6 @@ quiet-blank e a =
     record {
       down = record { lower = λ r l p. absurd (omega (arith, e (1 + r) (omega arith))) };
       links = record { equal = λ r l p. absurd (omega (arith, e (1 + r) (omega arith))) };
-      marks = λ y v ly lv q. absurd (omega (arith, e (8449 + y) (omega arith)));
+      marks = λ y v ly lv q. absurd (omega (arith, e (markPlaces + y) (omega arith)));
       awake = a;
     }

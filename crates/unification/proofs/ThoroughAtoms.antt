@@ -12,7 +12,8 @@ use Rattle.table.specs.Decode.{first}
 use Rattle.rules.specs.Tableau.{atom}
 use Rattle.rules.specs.Machinery.Unify.{Unified, unify}
 use Rattle.rules.proofs.Unify.Tests.{decide}
-use Rattle.unification.specs.State.{startAt, countOf, termsOf, literalAtReference, bindingsOf, bound}
+use Rattle.unification.specs.Places.{trailPlaces}
+use Rattle.unification.specs.State.{startAt, countOf, termsOf, literalAtReference, bindingsOf, bindingsIn}
 use Rattle.unification.specs.Good.{wordAt, Inside, Same, Good, Grown, Ahead, Alike, Met, Undone}
 use Rattle.unification.specs.Thorough.{spareOf, Quiet, Arguments, argumentsMet, Meets, Began}
 use Rattle.unification.specs.declared.unify.Meeting.{Meeting}
@@ -36,7 +37,7 @@ module _ {f m : List ℕ} {r s : ℕ} (h : Good f m) (p : Alike f m r s) where
       }
 
   pub literal-met : {m′ : List ℕ} {q : Meeting} → Met f m m′ q (argumentsMet f m r s)
-      → Met f m m′ q (unify (bound f m) (atom (literalAtReference f m r)) (atom (literalAtReference f m s)))
+      → Met f m m′ q (unify (bindingsIn f m) (atom (literalAtReference f m r)) (atom (literalAtReference f m s)))
   literal-met met = atoms-met h p refl refl met
 
 -- notes of one word
@@ -88,7 +89,7 @@ module _ {f m m₁ m₂ : List ℕ} (g : Grown f m m₁) {kept : ℕ} (ek : kept
   same-count =
       sym (bindings-length f m₂ (countOf m₂)) ∙ ap length (u .bindings) ∙ bindings-length f m₁ kept ∙ ek
 
-  same-bound : bound f m₂ ≡ bound f m
+  same-bound : bindingsIn f m₂ ≡ bindingsIn f m
   same-bound = u .bindings ∙ ap (bindingsOf f m₁) ek ∙ g .older (countOf m) (omega arith)
 
   pub undone-grown : Grown f m m₂
@@ -104,7 +105,7 @@ module _ {f m m₁ m₂ : List ℕ} (g : Grown f m m₁) {kept : ℕ} (ek : kept
             };
         more = omega (arith, same-count);
         older = λ n l. older f m m₂ (countOf m) n l (ap (bindingsOf f m₂) (sym same-count) ∙ same-bound);
-        trail = λ i l. u .trail .words (64 + i) (omega arith) (omega (arith, u .good .room, same-count)) ∙ g .trail i l;
+        trail = λ i l. u .trail .words (trailPlaces + i) (omega arith) (omega (arith, u .good .room, same-count)) ∙ g .trail i l;
         values = λ i l. rw (g .trail i l) at (u .values i (omega (arith, ek))) ∙ g .values i l;
       }
 
@@ -147,7 +148,7 @@ module _ {f m m₁ m₂ : List ℕ} {kept r s : ℕ} (b : Began f m m₁ kept r 
       }
 
   pub again-met : {m′ : List ℕ} {q : Meeting} → Met f m₂ m′ q (argumentsMet f m₂ r s)
-      → Met f m m′ q (unify (bound f m) (atom (literalAtReference f m r)) (atom (literalAtReference f m s)))
+      → Met f m m′ q (unify (bindingsIn f m) (atom (literalAtReference f m r)) (atom (literalAtReference f m s)))
   again-met met =
       let e : argumentsMet f m r s ≡ argumentsMet f m₂ r s =
       sym (ap (Pairs f m₂ (r + 1) (s + 1)) (ap arityOf word) ∙ still-pairs (b .grown) (b .count) u (b .good) (r + 1) (s + 1) (arityOf (wordAt f m r)) (arguments .lefts) (arguments .rights)) in

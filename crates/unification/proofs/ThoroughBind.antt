@@ -12,7 +12,8 @@ use Rattle.table.specs.Decode.{first}
 use Rattle.rules.specs.Machinery.Unify.{bind, occurs}
 use Rattle.rules.proofs.Unify.Tests.{decide, differ}
 use Rattle.rules.proofs.Unify.Solution.{isBound, Followed, unbound-solution}
-use Rattle.unification.specs.State.{boundAt, termOf, variableOf, bound}
+use Rattle.unification.specs.Places.{mostVariables}
+use Rattle.unification.specs.State.{boundAt, termOf, variableOf, bindingsIn}
 use Rattle.unification.specs.Good.{wordAt, variableAt, argumentsOf, Good, pushed, Binds, Met, occursUnder}
 use Rattle.unification.specs.Thorough.{Quiet, Checking, Other, Looked, Meets}
 use Rattle.unification.specs.declared.unify.Meeting.the-variants.{Made, Circle}
@@ -33,7 +34,7 @@ module _ {f m n : List ℕ} {v r : ℕ} (h : Good f m) (b : Binds f m v r) where
       }
 
   module _ {n′ : List ℕ} {q : Bool} (l : Looked f m n n′ v q (occursUnder f m v (termOf f m r))) where
-    pub bind-circle : q ≡ true → Meets f m m n n′ Circle (bind (bound f m) (variableOf v) (termOf f m r))
+    pub bind-circle : q ≡ true → Meets f m m n n′ Circle (bind (bindingsIn f m) (variableOf v) (termOf f m r))
     bind-circle e =
         record {
           grown = grown-none h;
@@ -46,15 +47,15 @@ module _ {f m n : List ℕ} {v r : ℕ} (h : Good f m) (b : Binds f m v r) where
       noted : Checking f m n′ v
       noted = l .on e
 
-      met : Met f m m′ Made (bind (bound f m) (variableOf v) (termOf f m r))
+      met : Met f m m′ Made (bind (bindingsIn f m) (variableOf v) (termOf f m r))
       met = bind-pushed h b (l .outcome (noted .notes .awake)) e em
 
-      still-free : (u : ℕ) → u < 528 → boundAt m′ u ≡ 0 → (u ≡ v → ⊥) × (boundAt m u ≡ 0)
+      still-free : (u : ℕ) → u < mostVariables → boundAt m′ u ≡ 0 → (u ≡ v → ⊥) × (boundAt m u ≡ 0)
       still-free u lu z =
           let other : u ≡ v → ⊥ = λ d. omega (arith, rw (em, d) at z, pushed-here m v r (h .size) (bind-room h b) (bind-small h b)) in
           (other, sym (pushed-change m v r (h .size) (bind-room h b) (bind-small h b) (h .copies) .others u lu other) ∙ rw em at z)
 
-      pub bind-made : Meets f m m′ n n′ Made (bind (bound f m) (variableOf v) (termOf f m r))
+      pub bind-made : Meets f m m′ n n′ Made (bind (bindingsIn f m) (variableOf v) (termOf f m r))
       bind-made =
           record {
             grown = met .grown;
@@ -74,8 +75,8 @@ module _ {f m : List ℕ} {v r : ℕ} (h : Good f m) (b : Binds f m v r) (other 
   unfolding Followed occurs under
   a-variable k =
       let t : termOf f m r ≡ var (variableOf (variableAt r (wordAt f m r))) = variable-term (b .points) k (few-variables h (b .points)) in
-      let u : isBound (bound f m) (variableOf (variableAt r (wordAt f m r))) ≡ false = rw t at (b .followed) in
-      sym (rw (t, unbound-solution (bound f m) (variableOf (variableAt r (wordAt f m r))) u) (differ (variableOf v) (variableOf (variableAt r (wordAt f m r))) (λ e. other (t ∙ ap var (sym e)))))
+      let u : isBound (bindingsIn f m) (variableOf (variableAt r (wordAt f m r))) ≡ false = rw t at (b .followed) in
+      sym (rw (t, unbound-solution (bindingsIn f m) (variableOf (variableAt r (wordAt f m r))) u) (differ (variableOf v) (variableOf (variableAt r (wordAt f m r))) (λ e. other (t ∙ ap var (sym e)))))
 
   a-constant : (kindOf (wordAt f m r) ≡ 0 → ⊥) → false ≡ occursUnder f m v (termOf f m r)
   unfolding occurs under first
@@ -88,5 +89,5 @@ module _ {f m : List ℕ} {v r : ℕ} (h : Good f m) (b : Binds f m v r) (other 
   lone : false ≡ occursUnder f m v (termOf f m r)
   lone = decide (eqb (kindOf (wordAt f m r)) 0) (λ e. a-variable (eqb-true _ _ e)) (λ e. a-constant (eqb-false _ _ e))
 
-  pub bind-lone : {n : List ℕ} → Quiet f m n → {m′ : List ℕ} → m′ ≡ pushed m v r → Meets f m m′ n n Made (bind (bound f m) (variableOf v) (termOf f m r))
+  pub bind-lone : {n : List ℕ} → Quiet f m n → {m′ : List ℕ} → m′ ≡ pushed m v r → Meets f m m′ n n Made (bind (bindingsIn f m) (variableOf v) (termOf f m r))
   bind-lone k em = bind-made h b (looked-still (bind-checking h b k) lone) refl em

@@ -6,6 +6,7 @@ use native.Mathlib.Omega.{arith}
 use Prim.Native.Nat.{ℕ, zero, suc, _+_, _-_, _/_, _≤_, _<_}
 use Rattle.words.specs.Fields.{kindOf, arityOf}
 use Rattle.table.specs.Decode.{rest}
+use Rattle.unification.specs.Places.{mostReferences}
 use Rattle.unification.specs.State.{Points, termsOf}
 use Rattle.unification.specs.Good.{wordAt, argumentsOf, Inside, Ahead, Held, Passed}
 use Rattle.unification.proofs.References.{variablesAt, clause-variables, points-inside, few, step-points, step-terms, step-rest}
@@ -30,7 +31,7 @@ few-variables {f} {m} {count} {r} h p = clause-variables f _ (h .starts (r / 256
 pub inside : {f m : List ℕ} {count r n : ℕ} → Held f m count → Points f m r (suc n) → Inside f m r
 inside h p = points-inside p (h .size) (h .copies)
 
-pub small : {f m : List ℕ} {count r n : ℕ} → Held f m count → Points f m r n → r < 8448
+pub small : {f m : List ℕ} {count r n : ℕ} → Held f m count → Points f m r n → r < mostReferences
 small h p = omega (arith, p .made, h .copies)
 
 -- so many terms are owed from a place on, until the term at a reference has been passed
@@ -64,7 +65,7 @@ module _ {f m : List ℕ} {r : ℕ} where
         pub walk-few : owed ≤ 256
         walk-few = omega (arith, few (owing 0 p))
 
-        pub walk-small : at < 8448
+        pub walk-small : at < mostReferences
         walk-small = small h (owing 0 p)
 
       pub walk-on : {w o : ℕ} → w ≡ wordAt f m at → o ≡ owed - 1 + argumentsOf (kindOf w) w → Walked f m r (at + 1) o

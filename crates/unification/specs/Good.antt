@@ -13,7 +13,8 @@ use Rattle.table.specs.Decode.{rest}
 use Rattle.rules.specs.Substitution.{Variable, Substitution}
 use Rattle.rules.specs.Machinery.Unify.{Unified, made, clash, circle, follow, occurs, solution}
 use Rattle.rules.proofs.Unify.Solution as bindings
-use Rattle.unification.specs.State.{startAt, copiesOf, countOf, trailAt, boundAt, ClauseAt, wordsAt, termsOf, termOf, Points, variableOf, bindingsOf, bound}
+use Rattle.unification.specs.Places.{mostVariables, trailEnd, valuePlaces, valueEnd, countPlace, sparePlaces, trailPlaces, workWords, mostCopies}
+use Rattle.unification.specs.State.{startAt, copiesOf, countOf, trailAt, boundAt, ClauseAt, wordsAt, termsOf, termOf, Points, variableOf, bindingsOf, bindingsIn}
 use Rattle.unification.specs.declared.unify.Meeting.{Meeting}
 use Rattle.unification.specs.declared.unify.Meeting.the-variants.{Made, Clash, Circle}
 
@@ -47,13 +48,13 @@ occursIn x σ (y ∷ ys) = occurs x (σ y) || occursIn x σ ys
 
 -- a reference can be read
 pub record Inside (f m : List ℕ) (r : ℕ) : Type 0 where
-  pub size : length m ≡ 16384
-  pub copy : r / 256 < 33
+  pub size : length m ≡ workWords
+  pub copy : r / 256 < mostCopies
   pub within : startAt m (r / 256) + r % 256 < length f
 
 -- a variable occurs in a term under what is bound
 abbrev pub occursUnder : List ℕ → List ℕ → ℕ → Term Variable → Bool
-occursUnder f m v t = occurs (variableOf v) (under (solution (bound f m)) t)
+occursUnder f m v t = occurs (variableOf v) (under (solution (bindingsIn f m)) t)
 
 -- so many terms stand from a reference on, if there is one
 abbrev pub Ahead : List ℕ → List ℕ → ℕ → ℕ → Type 0
@@ -94,12 +95,12 @@ pub record Entry (f m : List ℕ) (v : ℕ) : Type 0 where
 
 -- the work words hold copies and so many bindings
 pub record Held (f m : List ℕ) (count : ℕ) : Type 0 where
-  pub size : length m ≡ 16384
-  pub copies : copiesOf m ≤ 33
+  pub size : length m ≡ workWords
+  pub copies : copiesOf m ≤ mostCopies
   pub starts : (copy : ℕ) → copy < copiesOf m → ClauseAt f (startAt m copy)
   pub entries : (i : ℕ) → i < count → Entry f m (trailAt m i)
-  pub listed : (v : ℕ) → v < 528 → 0 < boundAt m v → bindings.isBound (bindingsOf f m count) (variableOf v) ≡ true
-  pub room : count + freeBelow m 528 ≡ 528
+  pub listed : (v : ℕ) → v < mostVariables → 0 < boundAt m v → bindings.isBound (bindingsOf f m count) (variableOf v) ≡ true
+  pub room : count + freeBelow m mostVariables ≡ mostVariables
   pub sound : bindings.Good (bindingsOf f m count)
 
 abbrev pub Good : List ℕ → List ℕ → Type 0
@@ -107,14 +108,14 @@ Good f m = Held f m (countOf m)
 
 -- all words but those of bindings are kept
 pub record Kept (m m′ : List ℕ) : Type 0 where
-  pub copies : Same 0 34 m m′
-  pub spare : Same 35 64 m m′
-  pub between : Same 592 640 m m′
-  pub leaves : Same 1168 16384 m m′
+  pub copies : Same 0 countPlace m m′
+  pub spare : Same sparePlaces trailPlaces m m′
+  pub between : Same trailEnd valuePlaces m m′
+  pub leaves : Same valueEnd workWords m m′
 
 -- the work words with one more binding
 abbrev pub pushed : List ℕ → ℕ → ℕ → List ℕ
-pushed m v r = set (set (set m (64 + countOf m) v) (640 + v) (r + 1)) 34 (countOf m + 1)
+pushed m v r = set (set (set m (trailPlaces + countOf m) v) (valuePlaces + v) (r + 1)) countPlace (countOf m + 1)
 
 -- more may be bound, and what was bound still is
 pub record Grown (f m m′ : List ℕ) : Type 0 where
@@ -132,7 +133,7 @@ FreeAt f m r = kindOf (wordAt f m r) ≡ 0 → boundAt m (variableAt r (wordAt f
 -- a term was followed through what is bound
 pub record FollowedTo (f m : List ℕ) (r to : ℕ) : Type 0 where
   pub points : Points f m to 1
-  pub same : termOf f m to ≡ follow (bound f m) (termOf f m r)
+  pub same : termOf f m to ≡ follow (bindingsIn f m) (termOf f m r)
   pub free : FreeAt f m to
 
 -- a term was passed: the others after it stand from there on
@@ -146,11 +147,11 @@ pub record Binds (f m : List ℕ) (v r : ℕ) : Type 0 where
   pub copy : v / 16 < copiesOf m
   pub free : boundAt m v ≡ 0
   pub points : Points f m r 1
-  pub followed : bindings.Followed (bound f m) (termOf f m r)
+  pub followed : bindings.Followed (bindingsIn f m) (termOf f m r)
 
 -- how a meeting ended, by what the rules say of it
 abbrev pub Outcome : List ℕ → List ℕ → Meeting → Unified → Type 0
-Outcome f m Made u = u ≡ made (bound f m)
+Outcome f m Made u = u ≡ made (bindingsIn f m)
 Outcome f m Clash u = u ≡ clash
 Outcome f m Circle u = u ≡ circle
 
@@ -162,9 +163,9 @@ pub record Met (f m m′ : List ℕ) (r : Meeting) (u : Unified) : Type 0 where
 pub record Undone (f m m′ : List ℕ) (kept : ℕ) : Type 0 where
   pub good : Good f m′
   pub count : countOf m′ ≡ kept
-  pub bindings : bound f m′ ≡ bindingsOf f m kept
-  pub stays : (v : ℕ) → v < 528 → 0 < boundAt m′ v → boundAt m′ v ≡ boundAt m v
-  pub copies : Same 0 34 m m′
-  pub trail : Same 35 640 m m′
+  pub bindings : bindingsIn f m′ ≡ bindingsOf f m kept
+  pub stays : (v : ℕ) → v < mostVariables → 0 < boundAt m′ v → boundAt m′ v ≡ boundAt m v
+  pub copies : Same 0 countPlace m m′
+  pub trail : Same sparePlaces valuePlaces m m′
   pub values : (i : ℕ) → i < kept → boundAt m′ (trailAt m i) ≡ boundAt m (trailAt m i)
-  pub leaves : Same 1168 16384 m m′
+  pub leaves : Same valueEnd workWords m m′

@@ -11,37 +11,38 @@ use Rattle.table.specs.Decode.{termsFrom, headTerm, literalOf}
 use Rattle.rules.specs.Substitution.{Variable}
 use Rattle.rules.specs.Tableau.{fresh}
 use Rattle.rules.specs.Machinery.Unify.{Bindings}
+use Rattle.unification.specs.Places.{valuePlaces, literalPlaces, parentPlaces, nextPlaces, stepPlaces, numberPlaces, countPlace, trailPlaces, copiesPlace, startPlaces}
 
 -- The regions of the work words (docs/MEMORY.md): copies, bindings, leaves, steps, marks.
 abbrev pub startAt : List ℕ → ℕ → ℕ
-startAt m copy = getD m (0 + copy) 0
+startAt m copy = getD m (startPlaces + copy) 0
 
 abbrev pub copiesOf : List ℕ → ℕ
-copiesOf m = getD m 33 0
+copiesOf m = getD m copiesPlace 0
 
 abbrev pub countOf : List ℕ → ℕ
-countOf m = getD m 34 0
+countOf m = getD m countPlace 0
 
 abbrev pub trailAt : List ℕ → ℕ → ℕ
-trailAt m i = getD m (64 + i) 0
+trailAt m i = getD m (trailPlaces + i) 0
 
 abbrev pub boundAt : List ℕ → ℕ → ℕ
-boundAt m v = getD m (640 + v) 0
+boundAt m v = getD m (valuePlaces + v) 0
 
 abbrev pub literalAt : List ℕ → ℕ → ℕ
-literalAt m leaf = getD m (1216 + leaf) 0
+literalAt m leaf = getD m (literalPlaces + leaf) 0
 
 abbrev pub parentAt : List ℕ → ℕ → ℕ
-parentAt m leaf = getD m (1472 + leaf) 0
+parentAt m leaf = getD m (parentPlaces + leaf) 0
 
 abbrev pub nextAt : List ℕ → ℕ → ℕ
-nextAt m leaf = getD m (1728 + leaf) 0
+nextAt m leaf = getD m (nextPlaces + leaf) 0
 
 abbrev pub stepAt : List ℕ → ℕ → ℕ
-stepAt m i = getD m (1984 + i) 0
+stepAt m i = getD m (stepPlaces + i) 0
 
-abbrev pub markAt : List ℕ → ℕ → ℕ
-markAt m v = getD m (2240 + v) 0
+abbrev pub numberedAt : List ℕ → ℕ → ℕ
+numberedAt m v = getD m (numberPlaces + v) 0
 
 -- the words of the clause that begins at a position of the file
 unfoldable pub ownWords : List ℕ → ℕ → List ℕ
@@ -90,5 +91,5 @@ bindingsOf f m zero = []
 bindingsOf f m (suc n) =
     record { variable = variableOf (trailAt m n); value = termOf f m (boundAt m (trailAt m n) - 1) } ∷ bindingsOf f m n
 
-abbrev pub bound : List ℕ → List ℕ → Bindings
-bound f m = bindingsOf f m (countOf m)
+abbrev pub bindingsIn : List ℕ → List ℕ → Bindings
+bindingsIn f m = bindingsOf f m (countOf m)

@@ -8,7 +8,8 @@ use Rattle.words.specs.Fields.{arityOf}
 use Rattle.table.specs.Syntax.{var, under}
 use Rattle.table.specs.Decode.{first}
 use Rattle.rules.specs.Machinery.Unify.{Unified, occurs, solution, unify, unifies}
-use Rattle.unification.specs.State.{countOf, boundAt, Points, termOf, termsOf, variableOf, bound}
+use Rattle.unification.specs.Places.{mostVariables, mostReferences, markPlaces}
+use Rattle.unification.specs.State.{countOf, boundAt, Points, termOf, termsOf, variableOf, bindingsIn}
 use Rattle.unification.specs.Good.{wordAt, Inside, Ahead, Alike, Good, Grown, Outcome}
 use Rattle.unification.specs.declared.unify.Meeting.{Meeting}
 use Rattle.unification.specs.declared.unify.Meeting.the-variants.{Made}
@@ -21,18 +22,18 @@ abbrev pub linkAt : List ℕ → ℕ → ℕ
 linkAt n r = getD n (1 + r) 0
 
 abbrev pub markAt : List ℕ → ℕ → ℕ
-markAt n v = getD n (8449 + v) 0
+markAt n v = getD n (markPlaces + v) 0
 
 -- two terms are equal under what is bound
 abbrev pub Equal : List ℕ → List ℕ → ℕ → ℕ → Type 0
-Equal f m r s = under (solution (bound f m)) (termOf f m r) ≡ under (solution (bound f m)) (termOf f m s)
+Equal f m r s = under (solution (bindingsIn f m)) (termOf f m r) ≡ under (solution (bindingsIn f m)) (termOf f m s)
 
 -- links lead down, and to equal terms
 pub record Down (n : List ℕ) : Type 0 where
-  pub lower : (r : ℕ) → r < 8448 → 0 < linkAt n r → linkAt n r ≤ r
+  pub lower : (r : ℕ) → r < mostReferences → 0 < linkAt n r → linkAt n r ≤ r
 
 pub record Links (f m n : List ℕ) : Type 0 where
-  pub equal : (r : ℕ) → r < 8448 → 0 < linkAt n r → Equal f m r (linkAt n r - 1)
+  pub equal : (r : ℕ) → r < mostReferences → 0 < linkAt n r → Equal f m r (linkAt n r - 1)
 
 -- a reference that links lead to
 pub record Rooted (n : List ℕ) (r to : ℕ) : Type 0 where
@@ -43,7 +44,7 @@ pub record Rooted (n : List ℕ) (r to : ℕ) : Type 0 where
 pub record Notes (f m n : List ℕ) (In : ℕ → ℕ → Type 0) : Type 0 where
   pub down : Down n
   pub links : Links f m n
-  pub marks : (y v : ℕ) → y < 528 → v < 528 → markAt n y ≡ v + 1 → boundAt m v ≡ 0 → In v y
+  pub marks : (y v : ℕ) → y < mostVariables → v < mostVariables → markAt n y ≡ v + 1 → boundAt m v ≡ 0 → In v y
   pub awake : 0 < spareOf n
 
 -- no free variable is looked for; one is
@@ -51,12 +52,12 @@ abbrev pub Quiet : List ℕ → List ℕ → List ℕ → Type 0
 Quiet f m n = Notes f m n (λ v y. ⊥)
 
 abbrev pub Absent : List ℕ → List ℕ → ℕ → ℕ → ℕ → Type 0
-Absent f m x v y = (v ≡ x) × (occurs (variableOf x) (solution (bound f m) (variableOf y)) ≡ false)
+Absent f m x v y = (v ≡ x) × (occurs (variableOf x) (solution (bindingsIn f m) (variableOf y)) ≡ false)
 
 pub record Checking (f m n : List ℕ) (x : ℕ) : Type 0 where
   pub notes : Notes f m n (Absent f m x)
   pub free : boundAt m x ≡ 0
-  pub small : x < 528
+  pub small : x < mostVariables
 
 -- a variable is not the term at a reference
 abbrev pub Other : List ℕ → List ℕ → ℕ → ℕ → Type 0
@@ -64,27 +65,27 @@ Other f m v r = termOf f m r ≡ var (variableOf v) → ⊥
 
 -- a variable is bound to the term at a reference
 pub record Valued (f m : List ℕ) (v r : ℕ) : Type 0 where
-  pub small : v < 528
+  pub small : v < mostVariables
   pub points : Points f m r 1
-  pub same : solution (bound f m) (variableOf v) ≡ under (solution (bound f m)) (termOf f m r)
+  pub same : solution (bindingsIn f m) (variableOf v) ≡ under (solution (bindingsIn f m)) (termOf f m r)
 
 -- the arguments of two words, as many as the left one has, and how they are made equal
 pub record Arguments (f m : List ℕ) (r s : ℕ) : Type 0 where
   pub inside : Inside f m r
-  pub small : s < 8448
+  pub small : s < mostReferences
   pub lefts : Ahead f m (r + 1) (arityOf (wordAt f m r))
   pub rights : Ahead f m (s + 1) (arityOf (wordAt f m r))
 
 abbrev pub argumentsMet : List ℕ → List ℕ → ℕ → ℕ → Unified
 argumentsMet f m r s =
-    unifies (bound f m) (first (arityOf (wordAt f m r)) (termsOf f m (r + 1))) (first (arityOf (wordAt f m r)) (termsOf f m (s + 1)))
+    unifies (bindingsIn f m) (first (arityOf (wordAt f m r)) (termsOf f m (r + 1))) (first (arityOf (wordAt f m r)) (termsOf f m (s + 1)))
 
 -- two applications of one symbol
 pub record Applied (f m : List ℕ) (r s : ℕ) : Type 0 where
   pub left : Points f m r 1
   pub right : Points f m s 1
   pub arguments : Arguments f m r s
-  pub same : unify (bound f m) (termOf f m r) (termOf f m s) ≡ argumentsMet f m r s
+  pub same : unify (bindingsIn f m) (termOf f m r) (termOf f m s) ≡ argumentsMet f m r s
 
 -- notes after other notes: only notes of one word limit how much may be looked into
 pub record Noting (n n′ : List ℕ) : Type 0 where

@@ -3,6 +3,7 @@ ghost use mathlib.Core.Path.{_≡_};
 ghost use mathlib.Core.List.{_++_};
 ghost use Prim.Native.Nat.{_+_, _*_, _/_, _%_, _≤_, _<_};
 ghost use lib.ListN.{length, take, drop, set, replicate};
+ghost use Rattle.unification.specs.Places.{mostVariables, mostReferences, workWords};
 ghost use Rattle.unification.specs.State.{startAt, countOf};
 ghost use Rattle.unification.specs.Good.{Inside, wordAt, variableAt, pushed};
 
@@ -69,7 +70,7 @@ pub fn clear(work: &mut [u32], from: usize, count: usize)
 
 // One more binding.
 pub fn push(work: &mut [u32], variable: u32, reference: u32)
-    requires { ⌜ (length (now work) ≡ 16384) × (countOf (now work) < 528) × (variable < 528) × (reference < 8448) ⌝ }
+    requires { ⌜ (length (now work) ≡ workWords) × (countOf (now work) < mostVariables) × (variable < mostVariables) × (reference < mostReferences) ⌝ }
     ensures { λ _. ⌜ now (work .exit) ≡ pushed (now (work .entry)) variable reference ⌝ }
 {
     let count = work[COUNT];

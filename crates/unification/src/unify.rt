@@ -10,7 +10,8 @@ ghost use lib.ListN.{set};
 ghost use Rattle.words.specs.Fields.{kindOf};
 ghost use Rattle.rules.specs.Tableau.{atom};
 ghost use Rattle.rules.specs.Machinery.Unify.{solution, bind, unify};
-ghost use Rattle.unification.specs.State.{Points, termOf, literalAtReference, boundAt, countOf, variableOf, bound};
+ghost use Rattle.unification.specs.Places.{mostVariables, mostReferences, markPlaces};
+ghost use Rattle.unification.specs.State.{Points, termOf, literalAtReference, boundAt, countOf, variableOf, bindingsIn};
 ghost use Rattle.unification.specs.Good.{Good, Alike, Binds, Met, Undone, wordAt, namesVariable, occursIn, occursUnder, variablesHere};
 ghost use Rattle.unification.specs.Thorough.{spareOf, linkAt, markAt, Down, Rooted, Valued, Spent, Quiet, Checking, Other, Looked, Meets, Arguments, Applied, argumentsMet, Began};
 
@@ -45,7 +46,7 @@ fn spend(notes: &mut [u32]) -> bool
 
 // The lowest of the terms that are noted to be equal to a term.
 fn root(notes: &[u32], reference: u32) -> u32
-    requires { ⌜ (reference < 8448) × Down (now notes) ⌝ }
+    requires { ⌜ (reference < mostReferences) × Down (now notes) ⌝ }
     ensures { λ r. ⌜ Rooted (now (notes .entry)) reference r ⌝ }
 {
     let mut at = reference;
@@ -61,7 +62,7 @@ fn root(notes: &[u32], reference: u32) -> u32
 
 // A term is equal to one at a lower reference.
 fn link(notes: &mut [u32], from: u32, to: u32)
-    requires { ⌜ (from < 8448) × (to < from) ⌝ }
+    requires { ⌜ (from < mostReferences) × (to < from) ⌝ }
     ensures { λ _. ⌜ now (notes .exit) ≡ set (now (notes .entry)) (1 + from) (to + 1) ⌝ }
 {
     let at = LINKS + fields::wide(from);
@@ -73,7 +74,7 @@ fn link(notes: &mut [u32], from: u32, to: u32)
 
 // Whether a variable was looked for in another, in vain.
 fn marked(notes: &[u32], met: u32, variable: u32) -> bool
-    requires { ⌜ (met < 528) × (variable < 528) ⌝ }
+    requires { ⌜ (met < mostVariables) × (variable < mostVariables) ⌝ }
     ensures { λ r. ⌜ (r ≡ true → markAt (now (notes .entry)) met ≡ variable + 1) ⌝ }
 {
     let at = MARKS + fields::wide(met);
@@ -84,8 +85,8 @@ fn marked(notes: &[u32], met: u32, variable: u32) -> bool
 }
 
 fn mark(notes: &mut [u32], met: u32, variable: u32)
-    requires { ⌜ (met < 528) × (variable < 528) ⌝ }
-    ensures { λ _. ⌜ now (notes .exit) ≡ set (now (notes .entry)) (8449 + met) (variable + 1) ⌝ }
+    requires { ⌜ (met < mostVariables) × (variable < mostVariables) ⌝ }
+    ensures { λ _. ⌜ now (notes .exit) ≡ set (now (notes .entry)) (markPlaces + met) (variable + 1) ⌝ }
 {
     let at = MARKS + fields::wide(met);
     if notes.len() <= at {
@@ -122,7 +123,7 @@ fn occurs_at(
     word: u32,
 ) -> bool
     requires { ⌜ Good (now file) (now work) × Checking (now file) (now work) (now notes) variable × Points (now file) (now work) at 1 × (word ≡ wordAt (now file) (now work) at) ⌝ }
-    ensures { λ r. ⌜ Looked (now (file .entry)) (now (work .entry)) (now (notes .entry)) (now (notes .exit)) variable r (occursIn (variableOf variable) (solution (bound (now (file .entry)) (now (work .entry)))) (variablesHere (kindOf word) at word)) ⌝ }
+    ensures { λ r. ⌜ Looked (now (file .entry)) (now (work .entry)) (now (notes .entry)) (now (notes .exit)) variable r (occursIn (variableOf variable) (solution (bindingsIn (now (file .entry)) (now (work .entry)))) (variablesHere (kindOf word) at word)) ⌝ }
 {
     if fields::kind(word) != 0 {
         return false;
@@ -166,7 +167,7 @@ fn occurs_through(
 // A free variable is bound to a term that was followed, unless it occurs there.
 fn bind(file: &[u32], work: &mut [u32], notes: &mut [u32], variable: u32, reference: u32) -> Meeting
     requires { ⌜ Good (now file) (now work) × Quiet (now file) (now work) (now notes) × Binds (now file) (now work) variable reference × Other (now file) (now work) variable reference ⌝ }
-    ensures { λ r. ⌜ Meets (now (file .entry)) (now (work .entry)) (now (work .exit)) (now (notes .entry)) (now (notes .exit)) r (bind (bound (now (file .entry)) (now (work .entry))) (variableOf variable) (termOf (now (file .entry)) (now (work .entry)) reference)) ⌝ }
+    ensures { λ r. ⌜ Meets (now (file .entry)) (now (work .entry)) (now (work .exit)) (now (notes .entry)) (now (notes .exit)) r (bind (bindingsIn (now (file .entry)) (now (work .entry))) (variableOf variable) (termOf (now (file .entry)) (now (work .entry)) reference)) ⌝ }
 {
     // A single word is another free variable, or a constant.
     if terms::owed_after(1, memory::word_at(file, work, reference)) == 0 {
@@ -192,7 +193,7 @@ fn same_variable(reference: u32, word: u32, variable: u32) -> bool
 
 fn meet(file: &[u32], work: &mut [u32], notes: &mut [u32], left: u32, right: u32) -> Meeting
     requires { ⌜ Good (now file) (now work) × Quiet (now file) (now work) (now notes) × Points (now file) (now work) left 1 × Points (now file) (now work) right 1 ⌝ }
-    ensures { λ r. ⌜ Meets (now (file .entry)) (now (work .entry)) (now (work .exit)) (now (notes .entry)) (now (notes .exit)) r (unify (bound (now (file .entry)) (now (work .entry))) (termOf (now (file .entry)) (now (work .entry)) left) (termOf (now (file .entry)) (now (work .entry)) right)) ⌝ }
+    ensures { λ r. ⌜ Meets (now (file .entry)) (now (work .entry)) (now (work .exit)) (now (notes .entry)) (now (notes .exit)) r (unify (bindingsIn (now (file .entry)) (now (work .entry))) (termOf (now (file .entry)) (now (work .entry)) left) (termOf (now (file .entry)) (now (work .entry)) right)) ⌝ }
 {
     let l = terms::follow(file, work, left);
     let r = terms::follow(file, work, right);
@@ -220,7 +221,7 @@ fn meet(file: &[u32], work: &mut [u32], notes: &mut [u32], left: u32, right: u32
 // Two applications of one symbol.
 fn meet_applied(file: &[u32], work: &mut [u32], notes: &mut [u32], left: u32, right: u32) -> Meeting
     requires { ⌜ Good (now file) (now work) × Quiet (now file) (now work) (now notes) × Applied (now file) (now work) left right ⌝ }
-    ensures { λ r. ⌜ Meets (now (file .entry)) (now (work .entry)) (now (work .exit)) (now (notes .entry)) (now (notes .exit)) r (unify (bound (now (file .entry)) (now (work .entry))) (termOf (now (file .entry)) (now (work .entry)) left) (termOf (now (file .entry)) (now (work .entry)) right)) ⌝ }
+    ensures { λ r. ⌜ Meets (now (file .entry)) (now (work .entry)) (now (work .exit)) (now (notes .entry)) (now (notes .exit)) r (unify (bindingsIn (now (file .entry)) (now (work .entry))) (termOf (now (file .entry)) (now (work .entry)) left) (termOf (now (file .entry)) (now (work .entry)) right)) ⌝ }
 {
     let l = root(notes, left);
     let r = root(notes, right);
@@ -285,7 +286,7 @@ fn meet_all(file: &[u32], work: &mut [u32], notes: &mut [u32], left: u32, right:
 // The atoms of two literals, thoroughly, after a comparison that gave up was taken back.
 fn meet_thoroughly(file: &[u32], work: &mut [u32], kept: u32, leaf: u32, other: u32) -> Meeting
     requires { ⌜ ((m : List ℕ) × Began (now file) m (now work) kept leaf other) ⌝ }
-    ensures { λ r. ⌜ ((m : List ℕ) → Began (now (file .entry)) m (now (work .entry)) kept leaf other → Met (now (file .entry)) m (now (work .exit)) r (unify (bound (now (file .entry)) m) (atom (literalAtReference (now (file .entry)) m leaf)) (atom (literalAtReference (now (file .entry)) m other)))) ⌝ }
+    ensures { λ r. ⌜ ((m : List ℕ) → Began (now (file .entry)) m (now (work .entry)) kept leaf other → Met (now (file .entry)) m (now (work .exit)) r (unify (bindingsIn (now (file .entry)) m) (atom (literalAtReference (now (file .entry)) m leaf)) (atom (literalAtReference (now (file .entry)) m other)))) ⌝ }
 {
     undo(work, kept);
     let mut notes = [0u32; FULL];
@@ -301,7 +302,7 @@ fn meet_thoroughly(file: &[u32], work: &mut [u32], kept: u32, leaf: u32, other: 
 // The atoms of two literals of one predicate and arity.
 pub fn meet_atoms(file: &[u32], work: &mut [u32], leaf: u32, other: u32) -> Meeting
     requires { ⌜ Good (now file) (now work) × Alike (now file) (now work) leaf other ⌝ }
-    ensures { λ r. ⌜ Met (now (file .entry)) (now (work .entry)) (now (work .exit)) r (unify (bound (now (file .entry)) (now (work .entry))) (atom (literalAtReference (now (file .entry)) (now (work .entry)) leaf)) (atom (literalAtReference (now (file .entry)) (now (work .entry)) other))) ⌝ }
+    ensures { λ r. ⌜ Met (now (file .entry)) (now (work .entry)) (now (work .exit)) r (unify (bindingsIn (now (file .entry)) (now (work .entry))) (atom (literalAtReference (now (file .entry)) (now (work .entry)) leaf)) (atom (literalAtReference (now (file .entry)) (now (work .entry)) other))) ⌝ }
 {
     let kept = work[memory::COUNT];
     let mut notes = [BRIEF; 1];

@@ -1,5 +1,5 @@
 use borrow.Author.Needs.{needs}
-use Rattle.calls.proofs.Lent.{line-within, line-begins}
+use Rattle.calls.proofs.Ends.{line-within, line-begins}
 use Rattle.calls.proofs.line_end.Statement.{statement}
 use Rattle.calls.proofs.line_end.Tie as tie
 

@@ -1,6 +1,6 @@
 -- The parent's head is taken as often as the height says. The measure is how often is left.
 use borrow.Author.Needs.{needs}
-use Rattle.engine.proofs.CheckLineage.{Climbing, climb-laws}
+use Rattle.engine.proofs.Checker.Lineage.{Climbing, climb-laws}
 use Rattle.engine.proofs.check.ancestor.Statement.{statement}
 use Rattle.engine.proofs.check.ancestor.Tie as tie
 

@@ -1,6 +1,6 @@
 use borrow.Author.Needs.{needs}
 use Rattle.engine.proofs.Performed.{Small}
-use Rattle.engine.proofs.CheckSteps.{small-clause, extend-closed, extend-over, extend-noted, extend-missing, extend-later, extend-reads, extend-unfit, extend-allowed, extend-judged}
+use Rattle.engine.proofs.Checker.Steps.{small-clause, extend-closed, extend-over, extend-noted, extend-missing, extend-later, extend-reads, extend-unfit, extend-allowed, extend-judged}
 use Rattle.engine.proofs.check.extension.Statement.{statement}
 use Rattle.engine.proofs.check.extension.Tie as tie
 

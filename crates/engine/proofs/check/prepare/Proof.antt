@@ -1,4 +1,4 @@
-use Rattle.engine.proofs.CheckRun.{body-literals, noted-body}
+use Rattle.engine.proofs.Checker.Run.{body-literals, noted-body}
 use borrow.Author.Needs.{needs}
 use Rattle.engine.proofs.check.prepare.Statement.{statement}
 use Rattle.engine.proofs.check.prepare.Tie as tie

@@ -1,7 +1,7 @@
 use borrow.Author.Needs.{needs}
 use native.Mathlib.Omega.{arith}
 use Rattle.engine.proofs.Performed.{Small}
-use Rattle.engine.proofs.CheckSteps.{ready-upward, reduce-closed, reduce-missing, reduce-reads, reduce-unfit, reduce-allowed, reduce-judged}
+use Rattle.engine.proofs.Checker.Steps.{ready-upward, reduce-closed, reduce-missing, reduce-reads, reduce-unfit, reduce-allowed, reduce-judged}
 use Rattle.engine.proofs.check.reduction.Statement.{statement}
 use Rattle.engine.proofs.check.reduction.Tie as tie
 

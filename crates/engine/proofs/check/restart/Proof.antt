@@ -1,7 +1,7 @@
 use borrow.Author.Needs.{needs}
 use borrow.Author.Tests.{not-true, not-false}
 use mathlib.Core.Path.{sym, _∙_}
-use Rattle.engine.proofs.CheckSteps.{restart-unlet-judged, restart-over-judged, restart-openable, restart-judged}
+use Rattle.engine.proofs.Checker.Steps.{restart-unlet-judged, restart-over-judged, restart-openable, restart-judged}
 use Rattle.engine.proofs.check.restart.Statement.{statement}
 use Rattle.engine.proofs.check.restart.Tie as tie
 

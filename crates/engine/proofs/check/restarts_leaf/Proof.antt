@@ -1,6 +1,6 @@
 use borrow.Author.Needs.{needs}
 use native.Mathlib.Omega.{arith}
-use Rattle.engine.proofs.CheckSteps.{leaf-reads, leaf-none, leaf-told}
+use Rattle.engine.proofs.Checker.Steps.{leaf-reads, leaf-none, leaf-told}
 use Rattle.engine.proofs.check.restarts_leaf.Statement.{statement}
 use Rattle.engine.proofs.check.restarts_leaf.Tie as tie
 

@@ -6,7 +6,7 @@ use Prim.Native.Nat.{_-_}
 use native.Mathlib.Omega.{arith}
 use lib.ListN.{length}
 use borrow.Author.Needs.{needs}
-use Rattle.engine.proofs.CheckRun.{Running, question-clause, run-begin, run-on, run-refuses, run-open, run-done}
+use Rattle.engine.proofs.Checker.Run.{Running, question-clause, run-begin, run-on, run-refuses, run-open, run-done}
 use Rattle.engine.proofs.check.run.Statement.{statement}
 use Rattle.engine.proofs.check.run.Tie as tie
 

@@ -1,6 +1,6 @@
 use borrow.Author.Needs.{needs}
 use mathlib.Core.Path.{sym, _∙_}
-use Rattle.engine.proofs.CheckSteps.{read-is, malformed-judged, extend-unlet}
+use Rattle.engine.proofs.Checker.Steps.{read-is, malformed-judged, extend-unlet}
 use Rattle.engine.proofs.check.step_taken.Statement.{statement}
 use Rattle.engine.proofs.check.step_taken.Tie as tie
 

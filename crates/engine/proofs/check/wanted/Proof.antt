@@ -1,5 +1,5 @@
 use borrow.Author.Needs.{needs}
-use Rattle.engine.proofs.CheckSteps.{leaf-reads}
+use Rattle.engine.proofs.Checker.Steps.{leaf-reads}
 use Rattle.engine.proofs.check.wanted.Statement.{statement}
 use Rattle.engine.proofs.check.wanted.Tie as tie
 

@@ -18,11 +18,11 @@ use Rattle.unification.specs.declared.unify.Meeting.{Meeting}
 use Rattle.unification.specs.declared.unify.Meeting.the-variants.{Made, Clash, Circle}
 use Rattle.engine.proofs.search.Ending.{enum as ending}
 use Rattle.unification.proofs.unify.Meeting.{enum as meeting}
-use Rattle.engine.proofs.Rows.{room-again, treats-again, Rowing, rowing-by, rowing-out, rowing-ended, rowing-on}
-use Rattle.engine.proofs.Attempts.{attempt-restores, attempt-failed, attempt-treats, attempt-falls, attempt-ended, attempt-good-below, attempt-restores-below, attempt-none}
-use Rattle.engine.proofs.NowhereSeen.{symbol-asked, opening-again, rowing-vain}
-use Rattle.engine.proofs.Climbs.{Climbing, climbs, climb-begin, climb-row, climb-end, climb-small, climb-few, climb-falls, climb-inside, climb-on, climb-past, climb-at, climb-against}
-use Rattle.engine.proofs.Treating.{treat-closed, treat-small, treat-inside, treat-wanted, treat-ended, treat-again, treat-room, treat-word-again, treat-further, further-wanted, further-used, further-extends, further-extended, further-allows, further-out, further-restarted, linked, link-begin, link-row, link-end, link-low, link-unpacks, link-leads, link-less, link-next, link-allows}
+use Rattle.engine.proofs.Searching.Rows.{room-again, treats-again, Rowing, rowing-by, rowing-out, rowing-ended, rowing-on}
+use Rattle.engine.proofs.Searching.Attempts.{attempt-restores, attempt-failed, attempt-treats, attempt-falls, attempt-ended, attempt-good-below, attempt-restores-below, attempt-none}
+use Rattle.engine.proofs.Nowhere.Seen.{symbol-asked, opening-again, rowing-vain}
+use Rattle.engine.proofs.Searching.Climbs.{Climbing, climbs, climb-begin, climb-row, climb-end, climb-small, climb-few, climb-falls, climb-inside, climb-on, climb-past, climb-at, climb-against}
+use Rattle.engine.proofs.Searching.Treating.{treat-closed, treat-small, treat-inside, treat-wanted, treat-ended, treat-again, treat-room, treat-word-again, treat-further, further-wanted, further-used, further-extends, further-extended, further-allows, further-out, further-restarted, linked, link-begin, link-row, link-end, link-low, link-unpacks, link-leads, link-less, link-next, link-allows}
 use Rattle.engine.proofs.search.attempt.Reads as attempt
 use Rattle.engine.proofs.search.attempt.Kinds as attempt-kinds
 use Rattle.engine.proofs.search.+attempt+extensions+further+reductions+treat.Lts-attempt as attempt-lts

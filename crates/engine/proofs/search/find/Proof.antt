@@ -2,7 +2,7 @@
 use borrow.Author.Needs.{needs}
 use mathlib.Core.Path.{_∙_}
 use native.Mathlib.Omega.{arith}
-use Rattle.engine.proofs.Finding.{file-least, file-most, file-literals, question-clause, find-treats, find-ends}
+use Rattle.engine.proofs.Searching.Finding.{file-least, file-most, file-literals, question-clause, find-treats, find-ends}
 use Rattle.engine.proofs.search.find.Statement.{statement}
 use Rattle.engine.proofs.search.find.Tie as tie
 

@@ -1,7 +1,7 @@
 -- Nothing comes of an extension whose first argument clashes, nor of the last one that leads to a leaf that no reduction closes.
 use borrow.Author.Needs.{needs}
-use Rattle.engine.proofs.NowhereSeen.{seen-inside, seen-clash, seen-end, seen-not}
-use Rattle.engine.proofs.Takes.{enter-later, extends}
+use Rattle.engine.proofs.Nowhere.Seen.{seen-inside, seen-clash, seen-end, seen-not}
+use Rattle.engine.proofs.Searching.Takes.{enter-later, extends}
 use Rattle.engine.proofs.search.in_vain.Statement.{statement}
 use Rattle.engine.proofs.search.in_vain.Tie as tie
 

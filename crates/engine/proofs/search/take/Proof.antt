@@ -4,7 +4,7 @@ use mathlib.Core.Path.{sym, subst}
 use Rattle.engine.specs.Searching.{Allows, Takes}
 use Rattle.engine.specs.declared.search.Move.{Move}
 use Rattle.unification.specs.declared.unify.Meeting.the-variants.{Made}
-use Rattle.engine.proofs.Takes.{reduces, takes-reduction, enter-later, enter-begun, extends, takes-extension, restarts, takes-restart}
+use Rattle.engine.proofs.Searching.Takes.{reduces, takes-reduction, enter-later, enter-begun, extends, takes-extension, restarts, takes-restart}
 use Rattle.engine.proofs.search.take.Statement.{statement}
 use Rattle.engine.proofs.search.take.Tie as tie
 

@@ -1,5 +1,5 @@
 use borrow.Author.Needs.{needs}
-use Rattle.engine.proofs.NowhereSeen.{clash-laws, clash-told}
+use Rattle.engine.proofs.Nowhere.Seen.{clash-laws, clash-told}
 use Rattle.engine.proofs.vain.clashes.Statement.{statement}
 use Rattle.engine.proofs.vain.clashes.Tie as tie
 

@@ -1,5 +1,5 @@
 use borrow.Author.Needs.{needs}
-use Rattle.engine.proofs.NowhereSeen.{end-laws, end-inside, end-more}
+use Rattle.engine.proofs.Nowhere.Seen.{end-laws, end-inside, end-more}
 use Rattle.engine.proofs.vain.dead_end.Statement.{statement}
 use Rattle.engine.proofs.vain.dead_end.Tie as tie
 

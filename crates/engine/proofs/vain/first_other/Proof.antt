@@ -1,7 +1,7 @@
 use borrow.Author.Needs.{needs}
 use borrow.Author.Tests.{not-true, not-false}
 use Prim.Native.Nat.{_-_}
-use Rattle.engine.proofs.NowhereSeen.{Seeking, seek-laws}
+use Rattle.engine.proofs.Nowhere.Seen.{Seeking, seek-laws}
 use Rattle.engine.proofs.vain.first_other.Statement.{statement}
 use Rattle.engine.proofs.vain.first_other.Tie as tie
 

@@ -1,5 +1,5 @@
 use borrow.Author.Needs.{needs}
-use Rattle.engine.proofs.NowhereSeen.{symbol-laws}
+use Rattle.engine.proofs.Nowhere.Seen.{symbol-laws}
 use Rattle.engine.proofs.vain.first_symbol.Statement.{statement}
 use Rattle.engine.proofs.vain.first_symbol.Tie as tie
 

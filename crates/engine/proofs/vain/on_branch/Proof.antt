@@ -1,5 +1,5 @@
 use borrow.Author.Needs.{needs}
-use Rattle.engine.proofs.NowhereSeen.{Walking, walk-laws}
+use Rattle.engine.proofs.Nowhere.Seen.{Walking, walk-laws}
 use Rattle.engine.proofs.vain.on_branch.Statement.{statement}
 use Rattle.engine.proofs.vain.on_branch.Tie as tie
 

@@ -1,5 +1,5 @@
 use borrow.Author.Needs.{needs}
-use Rattle.engine.proofs.NowhereSeen.{stuck-laws}
+use Rattle.engine.proofs.Nowhere.Seen.{stuck-laws}
 use Rattle.engine.proofs.vain.stuck.Statement.{statement}
 use Rattle.engine.proofs.vain.stuck.Tie as tie
 

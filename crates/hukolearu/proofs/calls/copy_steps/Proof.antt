@@ -8,31 +8,32 @@ use native.Mathlib.Numerals.{add-one}
 use native.Mathlib.Omega.{arith}
 use borrow.Author.Needs.{needs}
 use Prim.Native.Nat.{ℕ, _+_, _-_, _≤_, _<_}
+use Rattle.unification.specs.Places.{mostLeaves, stepPlaces, workWords}
 use Rattle.hukolearu.specs.Calls.{atFront}
 use Rattle.hukolearu.proofs.calls.copy_steps.Statement.{statement}
 use Rattle.hukolearu.proofs.calls.copy_steps.Tie as tie
 
 abbrev Inv-loop : tie.InvT-loop
-Inv-loop work proof₀ count n i₀ proof i = (i ≤ n) × (proof ≡ paste proof₀ 0 (drop 1984 work) i)
+Inv-loop work proof₀ count n i₀ proof i = (i ≤ n) × (proof ≡ paste proof₀ 0 (drop stepPlaces work) i)
 
 abbrev μ-loop : tie.MeasureT-loop
 μ-loop work proof₀ count n i₀ proof i = n - i
 
-module _ (m d : List ℕ) (n i : ℕ) {p : List ℕ} (room : length m ≡ 16384) (few : n ≤ 231) (enough : n ≤ length d) (e : p ≡ paste d 0 (drop 1984 m) i) where
+module _ (m d : List ℕ) (n i : ℕ) {p : List ℕ} (room : length m ≡ workWords) (few : n ≤ mostLeaves) (enough : n ≤ length d) (e : p ≡ paste d 0 (drop stepPlaces m) i) where
   copied-length : i ≤ n → length p ≡ length d
-  copied-length h = ap length e ∙ length-paste d 0 (drop 1984 m) i (omega arith) (omega (arith, length-drop {A = ℕ} 1984 m))
+  copied-length h = ap length e ∙ length-paste d 0 (drop stepPlaces m) i (omega arith) (omega (arith, length-drop {A = ℕ} stepPlaces m))
 
-  copied-more : i < n → set p i (getD m (1984 + i) 0) ≡ paste d 0 (drop 1984 m) (i + 1)
+  copied-more : i < n → set p i (getD m (stepPlaces + i) 0) ≡ paste d 0 (drop stepPlaces m) (i + 1)
   copied-more h =
       rw (e, add-one)
-      (ap (set (paste d 0 (drop 1984 m) i) i) (sym (getD-drop 1984 m i 0))
-      ∙ ap (λ (k : ℕ). set (paste d 0 (drop 1984 m) i) k (getD (drop 1984 m) i 0)) (sym (zero-add i))
-      ∙ paste-suc d 0 (drop 1984 m) i 0 (omega arith) (omega (arith, length-drop {A = ℕ} 1984 m)))
+      (ap (set (paste d 0 (drop stepPlaces m) i) i) (sym (getD-drop stepPlaces m i 0))
+      ∙ ap (λ (k : ℕ). set (paste d 0 (drop stepPlaces m) i) k (getD (drop stepPlaces m) i 0)) (sym (zero-add i))
+      ∙ paste-suc d 0 (drop stepPlaces m) i 0 (omega arith) (omega (arith, length-drop {A = ℕ} stepPlaces m)))
 
-  copied-all : i ≤ n → n ≤ i → p ≡ atFront (take n (drop 1984 m)) d
+  copied-all : i ≤ n → n ≤ i → p ≡ atFront (take n (drop stepPlaces m)) d
   copied-all h k =
       let z : i ≡ n = omega arith in
-      let l : length (take n (drop 1984 m)) ≡ n = length-take-le n (drop 1984 m) (omega (arith, length-drop {A = ℕ} 1984 m)) in
+      let l : length (take n (drop stepPlaces m)) ≡ n = length-take-le n (drop stepPlaces m) (omega (arith, length-drop {A = ℕ} stepPlaces m)) in
       e ∙ rw (z, zero-add) (sym (rw l))
 
 pub copy-steps-spec : {M : Type 1} → statement M
@@ -42,7 +43,7 @@ copy-steps-spec =
     Inv-loop
     μ-loop
     (λ c κs. search needs)
-    (λ c. let a = c .before .before .before in (omega arith, paste-zero (a .args .proof .now) 0 (drop 1984 (a .args .work .now))))
+    (λ c. let a = c .before .before .before in (omega arith, paste-zero (a .args .proof .now) 0 (drop stepPlaces (a .args .work .now))))
     (λ c. omega arith)
     (λ c. omega arith)
     (λ c. omega arith)

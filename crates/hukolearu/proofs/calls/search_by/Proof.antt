@@ -5,6 +5,7 @@ use mathlib.Core.List.{List}
 use mathlib.Core.Path.{_≡_, refl, sym, _∙_, ap}
 use Prim.Native.Nat.{ℕ}
 use Rattle.rules.specs.Setting.{Profile, profileOf}
+use Rattle.unification.specs.Places.{workWords}
 use Rattle.hukolearu.specs.Calls.{SearchAsked, searchWith, inputsBy}
 use Rattle.hukolearu.specs.Door.{Admitted, entryOf}
 use Rattle.hukolearu.proofs.DoorLaws.{opened, at-question, work-left}
@@ -61,7 +62,7 @@ search-by-spec =
     (λ c κs. search needs)
     (λ c. search needs)
     (λ c. accepted (c .before .before .before) .enough-work)
-    (λ c. sym (length-take-le 16384 (c .before .before .before .before .before .before .before .before .before .before .before .before .args .work .now) (accepted (c .before .before .before .before) .enough-work)))
+    (λ c. sym (length-take-le workWords (c .before .before .before .before .before .before .before .before .before .before .before .before .args .work .now) (accepted (c .before .before .before .before) .enough-work)))
     requires
     (λ c κs. search needs)
     (λ c. search needs)

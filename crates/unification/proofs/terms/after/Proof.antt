@@ -1,6 +1,7 @@
 -- The terms owed are walked over. The measure is how many references are left.
 use native.Mathlib.Omega.{arith}
 use Prim.Native.Nat.{_-_}
+use Rattle.unification.specs.Places.{mostReferences}
 use Rattle.unification.proofs.Walk.{Walked, walk-begin, walk-done, walk-inside, walk-few, walk-small, walk-on}
 use Rattle.unification.proofs.terms.after.Statement.{statement}
 use Rattle.unification.proofs.terms.after.Tie as tie
@@ -9,7 +10,7 @@ abbrev Inv-loop : tie.InvT-loop
 Inv-loop file work reference at₀ owed₀ at owed = Walked file work reference at owed
 
 abbrev μ-loop : tie.MeasureT-loop
-μ-loop file work reference at₀ owed₀ at owed = 8448 - at
+μ-loop file work reference at₀ owed₀ at owed = mostReferences - at
 
 pub after-spec : {M : Type 1} → statement M
 after-spec =

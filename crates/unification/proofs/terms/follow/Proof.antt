@@ -2,7 +2,7 @@
 use borrow.Author.Needs.{needs}
 use mathlib.Core.Path.{_∙_}
 use native.Mathlib.Omega.{arith}
-use Rattle.unification.specs.State.{termOf, bound}
+use Rattle.unification.specs.State.{termOf, bindingsIn}
 use Rattle.unification.proofs.Ranks.{rankOf}
 use Rattle.unification.proofs.Follow.{Following, follow-begin, follow-inside, follow-function, AtVariable, follow-variable, follow-free, follow-positive, follow-on, follow-falls}
 use Rattle.unification.proofs.terms.follow.Statement.{statement}
@@ -12,7 +12,7 @@ abbrev Inv-loop : tie.InvT-loop
 Inv-loop file work reference at₀ at = Following file work reference at
 
 abbrev μ-loop : tie.MeasureT-loop
-μ-loop file work reference at₀ at = rankOf (bound file work) (termOf file work at)
+μ-loop file work reference at₀ at = rankOf (bindingsIn file work) (termOf file work at)
 
 met : (c : tie.After-wide Inv-loop μ-loop)
     → (let a = c .before .before .before .before .before .before .before .before .args in

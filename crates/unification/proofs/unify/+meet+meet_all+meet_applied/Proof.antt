@@ -8,6 +8,7 @@ use mathlib.Core.Path.{_≡_, refl, sym, _∙_}
 use native.Mathlib.Omega.{arith}
 use Prim.Native.Nat.{ℕ, _+_, _*_, _-_, _<_}
 use Rattle.words.specs.Fields.{arityOf}
+use Rattle.unification.specs.Places.{mostReferences}
 use Rattle.unification.specs.Good.{wordAt}
 use Rattle.unification.specs.declared.unify.Meeting.{Meeting}
 use Rattle.unification.specs.declared.unify.Meeting.the-variants.{Made, Clash, Circle}
@@ -83,7 +84,7 @@ abbrev Inv : meet-all-lts.InvT-loop
 Inv file work₀ notes₀ left right l₀ r₀ more₀ work notes l r more = Going file work₀ notes₀ (left + 1) (right + 1) (arityOf (wordAt file work₀ left)) work notes l r more
 
 abbrev μ : meet-all-lts.MeasureT-loop
-μ file work₀ notes₀ left right l₀ r₀ more₀ work notes l r more = 8448 - l
+μ file work₀ notes₀ left right l₀ r₀ more₀ work notes l r more = mostReferences - l
 
 -- an outcome that is not the first is an end
 stops : (q : Meeting) → (tagOf (declared enum) q ≡ 1) ⊎ (tagOf (declared enum) q ≡ 2) → Stops q

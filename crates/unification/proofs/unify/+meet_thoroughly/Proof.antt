@@ -5,6 +5,7 @@ use borrow.Fn.PlainCycle.{Measures, is, falls, and}
 use mathlib.Core.Path.{_∙_}
 use native.Mathlib.Omega.{arith}
 use Prim.Native.Nat.{ℕ, _<_}
+use Rattle.unification.specs.Places.{thoroughWords}
 use Rattle.unification.proofs.ThoroughAtoms.{full-quiet, full-awake, full-met, again-arguments, again-met}
 use Rattle.unification.proofs.unify.meet_thoroughly.Reads as own
 use Rattle.unification.proofs.unify.meet_thoroughly.Kinds as kinds
@@ -37,10 +38,10 @@ pub +meet-thoroughly-spec : {M : Type 1} → statement M
     (λ c κs. let s = c .before .before .before in let b = s .pre .1 .1 in ((s .args .file .now, b .grown .good), omega (arith, b .count, b .grown .more)))
     (λ c. search needs)
     (λ c. search needs)
-    (λ c κs. let b = c .before .before .before .before .before .before .before .before .pre .1 .1 in let u = c .before .before .before .before .undo .ensures _ (b .grown .good) in (u .good, full-quiet 8977 (omega arith), again-arguments b u))
+    (λ c κs. let b = c .before .before .before .before .before .before .before .before .pre .1 .1 in let u = c .before .before .before .before .undo .ensures _ (b .grown .good) in (u .good, full-quiet thoroughWords (omega arith), again-arguments b u))
     (λ c. search needs)
-    (λ c κs. absurd (omega (arith, full-awake 8977 (omega arith) (c .before .before .before .before .before .meet-all .ensures), c .before .if1 .taken)))
-    (λ c. absurd (omega (arith, full-awake 8977 (omega arith) (c .before .before .before .before .before .before .before .before .meet-all .ensures), c .before .before .before .before .if1 .taken)))
-    (λ c. absurd (omega (arith, full-awake 8977 (omega arith) (c .before .before .before .before .before .before .before .before .meet-all .ensures), c .before .before .before .before .if1 .taken)))
+    (λ c κs. absurd (omega (arith, full-awake thoroughWords (omega arith) (c .before .before .before .before .before .meet-all .ensures), c .before .if1 .taken)))
+    (λ c. absurd (omega (arith, full-awake thoroughWords (omega arith) (c .before .before .before .before .before .before .before .before .meet-all .ensures), c .before .before .before .before .if1 .taken)))
+    (λ c. absurd (omega (arith, full-awake thoroughWords (omega arith) (c .before .before .before .before .before .before .before .before .meet-all .ensures), c .before .before .before .before .if1 .taken)))
     (λ c. c .before .before .before .before .meet-all .kept .1 .0 ∙ c .before .before .before .before .before .before .before .before .before .undo .kept .0)
-    (λ c m b. again-met b (c .before .before .before .before .before .before .before .before .before .undo .ensures _ (b .grown .good)) (full-met 8977 (omega arith) (c .before .before .before .before .meet-all .ensures))))
+    (λ c m b. again-met b (c .before .before .before .before .before .before .before .before .before .undo .ensures _ (b .grown .good)) (full-met thoroughWords (omega arith) (c .before .before .before .before .meet-all .ensures))))

@@ -6,7 +6,8 @@ use mathlib.Core.Path.{_≡_, refl, sym, _∙_}
 use native.Mathlib.Omega.{arith}
 use Prim.Native.Nat.{ℕ, _+_, _*_, _-_, _<_}
 use Rattle.words.specs.Fields.{kindOf}
-use Rattle.unification.specs.State.{termOf, bound}
+use Rattle.unification.specs.Places.{mostReferences}
+use Rattle.unification.specs.State.{termOf, bindingsIn}
 use Rattle.unification.proofs.Ranks.{weight}
 use Rattle.unification.proofs.Occurs.{weightHere, Seeking, seek-begin, seek-found, seek-on, seek-done, look-points, look-inside, look-few, look-small, look-falls, Here, at-function, at-variable, at-same, at-free, at-valued, at-falls, at-on, looked-still, looked-as, through-marked, through-tired, through-checking, through-found, through-absent}
 use Rattle.unification.proofs.unify.occurs.Reads as occurs
@@ -30,13 +31,13 @@ use Rattle.unification.proofs.unify.+occurs+occurs_at+occurs_through.{s
 use Rattle.unification.proofs.unify.+occurs+occurs_at+occurs_through.Tie.{close}
 
 abbrev μ-occurs : Measures 3 occurs-kinds.ps ℕ
-μ-occurs κs a = 3 * weight (bound (a .0 .now) (a .1 .0 .now)) (termOf (a .0 .now) (a .1 .0 .now) (a .1 .1 .1 .1 .0)) + 2
+μ-occurs κs a = 3 * weight (bindingsIn (a .0 .now) (a .1 .0 .now)) (termOf (a .0 .now) (a .1 .0 .now) (a .1 .1 .1 .1 .0)) + 2
 
 abbrev μ-here : Measures 3 here-kinds.ps ℕ
-μ-here κs a = 3 * weightHere (bound (a .0 .now) (a .1 .0 .now)) (kindOf (a .1 .1 .1 .1 .1 .0)) (a .1 .1 .1 .1 .0) (a .1 .1 .1 .1 .1 .0) + 1
+μ-here κs a = 3 * weightHere (bindingsIn (a .0 .now) (a .1 .0 .now)) (kindOf (a .1 .1 .1 .1 .1 .0)) (a .1 .1 .1 .1 .0) (a .1 .1 .1 .1 .1 .0) + 1
 
 abbrev μ-through : Measures 3 through-kinds.ps ℕ
-μ-through κs a = 3 * weight (bound (a .0 .now) (a .1 .0 .now)) (termOf (a .0 .now) (a .1 .0 .now) (a .1 .1 .1 .1 .1 .0)) + 3
+μ-through κs a = 3 * weight (bindingsIn (a .0 .now) (a .1 .0 .now)) (termOf (a .0 .now) (a .1 .0 .now) (a .1 .1 .1 .1 .1 .0)) + 3
 
 abbrev occurs-at : ℕ → In 3 occurs-kinds.ps
 occurs-at t = and 3 occurs-kinds.ps (is 3 occurs-kinds.ps μ-occurs t) occurs.Pre
@@ -60,7 +61,7 @@ abbrev Inv : occurs-lts.InvT-loop
 Inv file work notes₀ variable reference at₀ owed₀ notes at owed = Seeking file work notes₀ variable reference notes at owed
 
 abbrev μ : occurs-lts.MeasureT-loop
-μ file work notes₀ variable reference at₀ owed₀ notes at owed = 8448 - at
+μ file work notes₀ variable reference at₀ owed₀ notes at owed = mostReferences - at
 
 abbrev told : ℕ → occurs-lts.Claims
 told t = (word-at.Asked, word-at.Learnt, here-below t, here.Post, owed-after.Asked, owed-after.Learnt)

@@ -5,6 +5,7 @@ use mathlib.Core.Path.{_≡_, refl, sym, _∙_, ap}
 use native.Mathlib.Omega.{arith}
 use Prim.Native.Nat.{ℕ, _+_}
 use lib.ListN.{getD}
+use Rattle.unification.specs.Places.{markPlaces}
 use Rattle.unification.proofs.unify.marked.Statement.{statement}
 use Rattle.unification.proofs.unify.marked.Tie as tie
 
@@ -18,4 +19,4 @@ marked-spec =
     (λ c. search needs)
     (λ c. search needs)
     (λ c. search needs)
-    (λ c e. ap (λ (i : ℕ). getD (c .before .before .before .before .args .notes .now) (8449 + i) 0) (sym (c .before .before .wide .ensures)) ∙ eqb-true _ _ e))
+    (λ c e. ap (λ (i : ℕ). getD (c .before .before .before .before .args .notes .now) (markPlaces + i) 0) (sym (c .before .before .wide .ensures)) ∙ eqb-true _ _ e))

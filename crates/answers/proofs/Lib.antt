@@ -1,0 +1,10 @@
+pub mod Items
+pub mod Resolved
+pub mod CopyWords
+pub mod Questions
+pub mod Counting
+pub mod KeptItems
+pub mod Writing
+pub mod WritingTerms
+pub mod WritingAll
+pub mod Repeats

@@ -1,0 +1,4 @@
+-- The checker: one law for each outcome, with premises as the code has them.
+pub mod Lineage
+pub mod Steps
+pub mod Run

@@ -1,0 +1,22 @@
+use borrow.Author.Needs.{needs}
+use Rattle.lent.proofs.Lent.{lent}
+use Rattle.search_verbs.proofs.search.lend_search.Statement.{statement}
+use Rattle.search_verbs.proofs.search.lend_search.Tie as tie
+
+ruleset all = (needs, lent)
+
+pub lend-search-spec : {M : Type 1} → statement M
+lend-search-spec =
+    tie.close
+    (tie.spec
+    (λ c κs. search all)
+    (λ c κs. search all)
+    (λ c κs. search all)
+    (λ c κs. search all)
+    (λ c. search all)
+    (λ c. search all)
+    (λ c. search all)
+    (λ c. search all)
+    (λ c κs. search all)
+    (λ c. search all)
+    (λ c. search all))

@@ -1,0 +1,21 @@
+use borrow.Author.Needs.{needs}
+use Rattle.lent.proofs.Lent.{lent}
+use Rattle.table_verbs.proofs.tables.lend_slim.Statement.{statement}
+use Rattle.table_verbs.proofs.tables.lend_slim.Tie as tie
+
+ruleset all = (needs, lent)
+
+pub lend-slim-spec : {M : Type 1} → statement M
+lend-slim-spec =
+    tie.close
+    (tie.spec
+    (λ c κs. search all)
+    (λ c κs. search all)
+    (λ c κs. search all)
+    (λ c κs. search all)
+    (λ c. search all)
+    (λ c. search all)
+    (λ c. search all)
+    (λ c. search all)
+    (λ c κs. search all)
+    (λ c. search all))
