@@ -10,7 +10,7 @@ ghost use Rattle.words.specs.Steps.{stepOf};
 ghost use Rattle.listing.specs.Counting.{Counted};
 
 // A counter for each clause number that a step can hold, at first zero.
-pub(crate) fn count(offered: &[u32], copies: &mut [u32])
+pub fn count(offered: &[u32], copies: &mut [u32])
     requires { ⌜ (length (now offered) ≤ 199) × (now copies ≡ replicate 512 0) ⌝ }
     ensures { λ _. ⌜ Counted (map stepOf (now (offered .entry))) (now (copies .exit)) ⌝ }
 {

@@ -1,26 +1,31 @@
 -- The names of clauses in an index, with premises as the code has them.
-use mathlib.Core.Bool.{Bool, true, false}
+use mathlib.Core.Bool.{Bool, true, false, cond}
 use mathlib.Core.List.{List, [], _∷_, _++_, map, map-append}
 use mathlib.Core.Path.{_≡_, refl, sym, ap, ap₂, subst, _∙_}
 use Prim.Native.Nat.{ℕ, zero, suc, _+_, _-_, _≤_, _<_, _^_}
 use native.Mathlib.Omega.{arith}
 use native.Mathlib.Decide.{decLt}
-use borrow.Author.Tests.{leb-true}
+use borrow.Author.Tests.{leb-true, le-leb}
 use lib.Dec.{leb}
-use lib.ListN.{length, take, drop, getD, replicate, length-append, length-drop, length-replicate, getD-replicate, take-append-drop}
+use lib.ListN.{length, take, drop, getD, replicate, length-append, length-map, length-drop, length-replicate, getD-replicate, take-append-drop}
 use lib.Seq.{length-take-le, getD-drop, take-append-seam, drop-append-seam, take-append-le, drop-append-le}
-use Rattle.clausetext.specs.Syntax.{Clause}
+use Rattle.clausetext.specs.Syntax.{Role, Axiom, Hypothesis, NegatedConjecture, Clause}
 use Rattle.clausetext.specs.Texts.{Says}
 use Rattle.clausetext.proofs.OneReading.{one-reading}
 use Rattle.names.specs.Numbers.{Name}
 use Rattle.names.specs.Noting.{nameAt, namesAt}
 use Rattle.names.proofs.Same.{no-name}
+use Rattle.tptp.specs.Said.{tableSaid}
+use Rattle.tptp.specs.Reads.{Fits}
+use Rattle.tptp.proofs.Splits.{split}
+use Rattle.tptp.proofs.Answers.{all-count}
+use Rattle.table.specs.Syntax.{allClauses}
 use Rattle.text.specs.Put.{Put}
 use Rattle.text.proofs.Putting.{then, same-size}
 use Rattle.text.proofs.Fitting.{left-whole, fits-exactly}
 use Rattle.naming.specs.Index.{nameOf, functionPlaces, predicatePlaces, clausePlaces}
-use Rattle.naming.specs.Clauses.{namesOf, fileNames, NamesPut}
-use Rattle.naming.specs.Noting.{Tells, Listed, ClausesNamed, Indexed}
+use Rattle.naming.specs.Clauses.{same, asks, namesOf, fileNames, NamesPut}
+use Rattle.naming.specs.Noting.{Tells, Admissible, Listed, ClausesNamed, Indexed}
 use Rattle.naming.proofs.Lookups.{named-at, none-named}
 
 -- names with no names after them
@@ -28,6 +33,18 @@ blank-after : (xs ys : List Name) → ((k : ℕ) → getD ys k [] ≡ []) → (n
 blank-after [] ys h n = h n
 blank-after (x ∷ xs) ys h zero = refl
 blank-after (x ∷ xs) ys h (suc n) = blank-after xs ys h n
+
+-- a clause is a question or not
+names-count : (cs : List Clause) → length (namesOf false cs) + length (namesOf true cs) ≡ length cs
+unfolding namesOf
+names-count [] = refl
+names-count (c ∷ cs) = go (c .role) (names-count cs)
+  where
+    go : (r : Role) → length (namesOf false cs) + length (namesOf true cs) ≡ length cs
+        → length (cond (same (asks r) false) (c .name ∷ namesOf false cs) (namesOf false cs)) + length (cond (same (asks r) true) (c .name ∷ namesOf true cs) (namesOf true cs)) ≡ suc (length cs)
+    go Axiom h = omega (arith, h)
+    go Hypothesis h = omega (arith, h)
+    go NegatedConjecture h = omega (arith, h)
 
 module _ (text : List ℕ) {end : ℕ} (e : end ≡ length text) (names : List ℕ) {cleared : List ℕ} (c : cleared ≡ replicate (length names) end) where
   none-left : (k j : ℕ) → nameOf text (drop k cleared) j ≡ []
@@ -41,13 +58,23 @@ module _ (text : List ℕ) {end : ℕ} (e : end ≡ length text) (names : List �
       go (no h) = none-named text (drop k cleared) j (omega (arith, h))
 
   pub clauses-named : length names ≡ 512 → {one two : List ℕ} {n m : ℕ} → NamesPut text false cleared 0 one n → NamesPut text true one n two m → ClausesNamed text two (leb m 512)
-  clauses-named l {one} {two} {n} {m} a b = record { long = same-size both ∙ size; told = named }
+  clauses-named l {one} {two} {n} {m} a b = record { long = same-size both ∙ size; made = few; told = named }
     where
       both : Put cleared 0 (a .places ++ b .places) two m
       both = then (a .written) (b .written)
 
       size : length cleared ≡ 512
       size = ap (λ (l : List ℕ). length l) c ∙ length-replicate (length names) end ∙ l
+
+      few : (cs : List Clause) → Admissible text cs → leb m 512 ≡ true
+      few cs w =
+          let stated : length (a .places) ≡ length (namesOf false cs)
+          = sym (length-map (a .places) (λ (at : ℕ). nameAt text at)) ∙ ap (λ (l : List Name). length l) (a .names) ∙ ap (λ (ds : List Clause). length (namesOf false ds)) (one-reading (a .says) (w .says)) in
+          let asked : length (b .places) ≡ length (namesOf true cs)
+          = sym (length-map (b .places) (λ (at : ℕ). nameAt text at)) ∙ ap (λ (l : List Name). length l) (b .names) ∙ ap (λ (ds : List Clause). length (namesOf true ds)) (one-reading (b .says) (w .says)) in
+          let all : length (a .places ++ b .places) ≤ 512
+          = omega (arith, stated, asked, names-count cs, length-append (a .places) (b .places), all-count cs (split cs (w .one)), w .fits .within .few) in
+          le-leb m 512 (fits-exactly both 512 (omega (arith, size)) (omega arith) .1 all)
 
       named : leb m 512 ≡ true → (cs : List Clause) → Says text cs → (k : ℕ) → nameOf text two k ≡ getD (fileNames cs) k []
       named t cs says k =
@@ -87,6 +114,7 @@ all-indexed {text} {index} {names} {r} w n =
     = ap (λ (l : List ℕ). take 512 l) d ∙ subst (λ (k : ℕ). take k (names ++ rest) ≡ names) (n .long) (take-append-seam names rest) in
     record {
       long = omega (arith, front, w .long, n .long, length-append (take 8192 index) (names ++ rest), length-append names rest, length-drop 512 (drop 8192 index), length-drop 8192 index);
+      made = n .made;
       told = λ e cs says. let t = w .told refl cs says in record {
         functions = λ k. ap (λ (l : List ℕ). nameOf text l k) f ∙ t .functions k;
         predicates = λ k. ap (λ (l : List ℕ). nameOf text l k) p ∙ t .predicates k;
@@ -94,12 +122,16 @@ all-indexed {text} {index} {names} {r} w n =
       clauses = λ e cs says k. ap (λ (l : List ℕ). nameOf text l k) c ∙ n .told e cs says k;
     }
 
-pub unindexed : {text index : List ℕ} → length index ≡ 16896 → Indexed text index false
-unindexed l = record {
+pub unindexed : {text index : List ℕ} → length index ≡ 16896 → ((cs : List Clause) → Admissible text cs → ⊥) → Indexed text index false
+unindexed l none = record {
   long = l;
+  made = λ cs a. absurd (none cs a);
   told = λ e. let z : _≡_ {A = ℕ} 0 1 = cc in absurd (omega (arith, z));
   clauses = λ e. let z : _≡_ {A = ℕ} 0 1 = cc in absurd (omega (arith, z));
 }
 
 pub listed-so : {text index : List ℕ} {r : Bool} → Listed text index r → r ≡ true → Listed text index true
 listed-so w e = rw e at w
+
+pub never-unlisted : {text index : List ℕ} {r : Bool} → Listed text index r → r ≡ false → (cs : List Clause) → Admissible text cs → ⊥
+never-unlisted w e cs a = let t = w .made cs a in let z : _≡_ {A = ℕ} 0 1 = cc in omega (arith, z)

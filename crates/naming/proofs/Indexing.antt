@@ -16,7 +16,7 @@ use Rattle.clausetext.specs.declared.judge.Verdict.{Verdict}
 use Rattle.clausetext.specs.declared.judge.Verdict.the-variants.{Wrong, Fine}
 use Rattle.clausetext.specs.Judging.{judged}
 use Rattle.clausetext.specs.Texts.{Says, Permitted, Verdicts, long, wrong, fine}
-use Rattle.clausetext.proofs.Judgement.{judged-verdict}
+use Rattle.clausetext.proofs.Judgement.{judged-verdict, only-verdict}
 use Rattle.clausetext.proofs.OneReading.{one-reading}
 use Rattle.table.specs.Limits.{Each}
 use Rattle.names.specs.Numbers.{Name, firstUses, numberIn}
@@ -24,16 +24,21 @@ use Rattle.names.specs.Noting.{nameAt, namesAt, usesOf}
 use Rattle.names.proofs.Same.{no-name}
 use Rattle.tptp.specs.Sketch.{Item, clausesItems}
 use Rattle.tptp.specs.Shapes.{sortKind, shapeBy, fitsBy}
-use Rattle.tptp.specs.Said.{functionUses, predicateUses, ofAll, predicates, functions}
+use Rattle.tptp.specs.Said.{functionUses, predicateUses, ofAll, predicates, functions, tableSaid}
+use Rattle.tptp.specs.Reads.{Fits}
+use Rattle.tptp.specs.Inside.{Asked, Gatherable}
 use Rattle.tptp.specs.Memory.{Gathered}
-use Rattle.tptp.specs.Body.{itemNames, Fit, bare, withFunction, withPredicate, Under, Below, Held, Numbered}
+use Rattle.tptp.specs.Body.{itemNames, Fit, bare, withFunction, withPredicate, Under, Below, Held, Numbered, ClauseFits, Completed}
 use Rattle.tptp.proofs.Shaping.{few-parts}
 use Rattle.tptp.proofs.Items.{namesOfKind, Kinds, uses-are, clauses-functions, clauses-predicates}
 use Rattle.tptp.proofs.Stages.{kinds-predicates}
 use Rattle.tptp.proofs.Final.{uses-few}
+use Rattle.tptp.proofs.Splits.{split}
+use Rattle.tptp.proofs.Answers.{within-said}
+use Rattle.tptp.proofs.Calling.{file-size}
 use Rattle.naming.specs.Index.{nameOf, functionPlaces, predicatePlaces}
 use Rattle.naming.specs.Firsts.{Numbered as Right, Blank, Noted}
-use Rattle.naming.specs.Noting.{Tells, Listed, Unnamed, BothNoted}
+use Rattle.naming.specs.Noting.{Tells, Admissible, Listed, Unnamed, BothNoted}
 
 -- the number that a word of an item has
 module _ (ps fs : List Name) where
@@ -147,7 +152,7 @@ module _ {text index : List ℕ} (u : Unnamed text index) where
     }
 
     pub all-listed : Listed text index′ true
-    all-listed = record { long = b .long; told = λ e ds says. subst (λ (ds : List Clause). Tells text index′ ds) (one-reading (nb .says) says) tells }
+    all-listed = record { long = b .long; made = λ ds a. refl; told = λ e ds says. subst (λ (ds : List Clause). Tells text index′ ds) (one-reading (nb .says) says) tells }
 
 -- two parts of an index, noted one after the other
 pub both-noted : {words places index : List ℕ} → length index ≡ 16896 → {a b : List ℕ} → Noted words places 1 (take 4096 index) a
@@ -199,8 +204,22 @@ module _ {first : List ℕ} {end : ℕ} where
 
 pub ruleset clear-laws = (clear-begin, clear-end, clear-next)
 
-pub unlisted : {text index : List ℕ} → length index ≡ 16896 → Listed text index false
-unlisted l = record { long = l; told = λ e. let z : _≡_ {A = ℕ} 0 1 = cc in absurd (omega (arith, z)) }
+-- no list is made of a text that is over the limits
+pub unlisted : {text index : List ℕ} → length index ≡ 16896 → ((cs : List Clause) → Admissible text cs → ⊥) → Listed text index false
+unlisted l none = record { long = l; made = λ cs a. absurd (none cs a); told = λ e. let z : _≡_ {A = ℕ} 0 1 = cc in absurd (omega (arith, z)) }
+
+pub over-limits : {text words : List ℕ} → Completed text words false → (cs : List Clause) → Admissible text cs → ⊥
+over-limits c cs a =
+    c .over refl (subst (λ (ds : List Clause). Each (ClauseFits ds) ds) (sym (one-reading (c .says) (a .says))) (within-said cs (split cs (a .one)) (a .fits .within)))
+
+pub too-many : {text marks places : List ℕ} → length marks ≡ length places → Held text marks places → 15996 < length marks → (cs : List Clause) → Admissible text cs → ⊥
+too-many {text} {marks} {places} even held h cs a =
+    let g : Gatherable text marks places (length cs) = record {
+      asked = record { limited = a .limited; said = cs; says = a .says; one = a .one; count = refl };
+      items = held .items ∙ ap (λ (ds : List Clause). clausesItems ds) (one-reading (held .says) (a .says));
+      even = even;
+    } in
+    omega (arith, h, a .fits .short, file-size g)
 
 -- the items of a text, gathered in memory
 module _ {text marks places : List ℕ} {count : ℕ} (g : Gathered text marks places count) where
@@ -238,3 +257,9 @@ items-ready {marks = marks} e h u few =
     let z : length marks - 0 ≡ length marks = omega arith in
     let room : length (take (length marks) (replicate {A = ℕ} 15996 0)) ≡ length marks = length-take-le (length marks) (replicate {A = ℕ} 15996 0) (omega (arith, few, length-replicate {A = ℕ} 15996 0)) in
     ((rw (z, room), rw (z, room) (sym e), h), u)
+
+-- a wrong text is none of them
+pub wrong-refused : (text : List ℕ) {v : Verdict} → v ≡ judged text → {place : ℕ} → v ≡ Wrong place → (cs : List Clause) → Admissible text cs → ⊥
+wrong-refused text {v} is {place} e cs a =
+    let one : judged text ≡ Fine _ _ = only-verdict (fine (a .limited) (a .says)) in
+    let z : _≡_ {A = ℕ} 0 1 = cc in omega (arith, z)

@@ -16,7 +16,8 @@ use Rattle.rules.proofs.Demands.{one-answer}
 use Rattle.rules.proofs.Firsts.{firsts-renamed}
 use Rattle.rules.proofs.Sameness.{disjuncts-told}
 use Rattle.rules.proofs.Every.{All, end, all-first, all-rest, all-then, all-of}
-use Rattle.roundtrip.specs.Renumbered.{firstUses, numberIn, predicates, functions, variableUses, renamedTerm, renamedTerms, renamedLiteral, renumbered}
+use Rattle.roundtrip.specs.Renumbered.{firstUses, numberIn, predicates, functions, predicateUses, functionUses, variableUses, renamedTerm, renamedTerms, renamedLiteral, renumbered}
+use Rattle.roundtrip.proofs.FirstUses.{known-all}
 use Rattle.roundtrip.proofs.Renaming.{agree-literals, shown-predicates, shown-functions}
 use Rattle.roundtrip.proofs.Permutations.{Permutation, after, numbering, numbering-known, numbering-below, moving, moving-below, moving-above}
 use Rattle.roundtrip.proofs.Images.{Image, forth, general-forth, literals-forth}
@@ -155,6 +156,12 @@ both-known : (uses : List ℕ) (n : ℕ) → numbering uses .to n ≡ elsewhere 
 unfolding after
 both-known uses n e = numbering-below uses n (moving-above (length (firstUses uses)) (numbering uses .to n) e)
 
+-- so what both numberings give the same number was used
+both-used : {P : ℕ → Type 0} (uses : List ℕ) → All P uses → (n : ℕ) → numbering uses .to n ≡ elsewhere uses .to n → P n
+unfolding after
+both-used uses a n e =
+    known-all uses a n (omega (arith, moving-above (length (firstUses uses)) (numbering uses .to n) e, both-known uses n e))
+
 -- as many disjuncts over the renumbered table
 pub same-count : (rules : Profile) (t : Table) (bound : ℕ) (steps : List Step) (c : Closed (over rules t bound) steps) (d : Closed (over rules (renumbered t) bound) steps)
     (σ : Substitution) → MostGeneral σ (c .tableau .pairs) → (m : ℕ) (vs : List ℕ) → Answers (renumbered t) (d .tableau) m vs → m ≡ length (disjuncts σ t (c .tableau))
@@ -185,6 +192,17 @@ module _ (rules : Profile) (t : Table) (bound : ℕ) (steps : List Step) (c : Cl
   twice : map (renamedLiteral (predicateNumbers t .to) (functionNumbers t .to) (λ x. x)) old
       ≡ map (renamedLiteral (elsewhere (predicatesUsed t) .to) (elsewhere (functionsUsed t) .to) (λ x. x)) old
   twice = sym once ∙ by (elsewhere (predicatesUsed t)) (elsewhere (functionsUsed t)) (elsewhere-known (predicatesUsed t)) (elsewhere-known (functionsUsed t))
+
+  -- what holds of the symbols that the table uses holds of those of the answer
+  pub answer-predicates : {P : ℕ → Type 0} → All P (predicatesUsed t) → All P (predicateUses old)
+  answer-predicates a =
+      all-then (both-used (predicatesUsed t) a)
+      (shown-predicates (predicateNumbers t .to) (elsewhere (predicatesUsed t) .to) (functionNumbers t .to) (elsewhere (functionsUsed t) .to) (λ x. x) (λ x. x) old twice)
+
+  pub answer-functions : {P : ℕ → Type 0} → All P (functionsUsed t) → All P (functionUses old)
+  answer-functions a =
+      all-then (both-used (functionsUsed t) a)
+      (shown-functions (predicateNumbers t .to) (elsewhere (predicatesUsed t) .to) (functionNumbers t .to) (elsewhere (functionsUsed t) .to) (λ x. x) (λ x. x) old twice)
 
   pub answer-renumbered : new ≡ map (renamedLiteral (numberIn (predicates t)) (numberIn (functions t)) (λ x. x)) old
   answer-renumbered =

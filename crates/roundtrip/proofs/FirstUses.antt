@@ -4,7 +4,7 @@ use borrow.Author.Tests.{eqb-true, eqb-false, eq-eqb, ne-eqb}
 use mathlib.Core.Bool.{Bool, true, false, cond}
 use mathlib.Core.List.{List, [], _∷_, map}
 use mathlib.Core.Logic.{_≢_}
-use mathlib.Core.Path.{_≡_, refl, ap, _∙_}
+use mathlib.Core.Path.{_≡_, refl, ap, subst, _∙_}
 use Prim.Native.Nat.{ℕ, zero, suc, _≤_, _<_}
 use native.Mathlib.Omega.{arith}
 use lib.Dec.{eqb}
@@ -133,6 +133,11 @@ at-place : {P : ℕ → Type 0} (ns : List ℕ) (k : ℕ) → All P ns → k < l
 at-place [] k a h = absurd (omega arith)
 at-place (n ∷ ns) zero a h = all-first a
 at-place (n ∷ ns) (suc k) a h = at-place ns k (all-rest a) (omega arith)
+
+-- and what holds of all uses holds of every number known
+pub known-all : {P : ℕ → Type 0} (uses : List ℕ) → All P uses → (n : ℕ) → Known (firstUses uses) n → P n
+known-all {P} uses a n h =
+    subst (λ (i : ℕ). P i) (recalled (firstUses uses) n h) (at-place (firstUses uses) (numberIn (firstUses uses) n) (all-known [] uses end a) h)
 
 place-number : (ns : List ℕ) (k : ℕ) → Different ns → k < length ns → numberIn ns (getD ns k 0) ≡ k
 unfolding numberIn

@@ -1,4 +1,4 @@
-use Rattle.naming.proofs.Indexing.{fine-short, fine-said}
+use Rattle.naming.proofs.Indexing.{fine-short, fine-said, wrong-refused}
 use Rattle.naming.proofs.ClauseIndex.{unindexed}
 use borrow.Author.Needs.{needs}
 use Rattle.naming.proofs.index.index.Statement.{statement}
@@ -26,7 +26,7 @@ index-text-requires c κs = let told = c .before .before .before .judge-text .en
 
 -- src/index.rt:109:1
 returns : tie.Need-returns
-returns c = unindexed (c .before .before .before .before .before .pre)
+returns c = unindexed (c .before .before .before .before .before .pre) (wrong-refused (c .before .before .before .before .before .args .text .now) (c .before .before .judge-text .ensures) (c .enum-told .given .1))
 
 -- src/index.rt:109:1
 same-length : tie.Need-same-length

@@ -1,5 +1,5 @@
 use native.Mathlib.Omega.{arith}
-use Rattle.naming.proofs.Indexing.{unlisted, items-ready}
+use Rattle.naming.proofs.Indexing.{unlisted, too-many, items-ready}
 use borrow.Author.Needs.{needs}
 use Rattle.naming.proofs.index.index_items.Statement.{statement}
 use Rattle.naming.proofs.index.index_items.Tie as tie
@@ -9,7 +9,7 @@ use Rattle.naming.proofs.index.number_items.Reads as number-items-reads
 
 -- src/index.rt:67:9
 returns : tie.Need-returns
-returns c = unlisted (c .before .before .before .before .before .pre .2 .long)
+returns c = let pre = c .before .before .before .before .before .pre in unlisted (pre .2 .long) (too-many (pre .0) (pre .1) (c .if1 .taken))
 
 -- src/index.rt:70:39
 sub-number-items : tie.Need-sub-number-items

@@ -1,8 +1,8 @@
 use mathlib.Core.Path.{refl}
-use borrow.Author.Tests.{not-false}
+use borrow.Author.Tests.{not-true, not-false}
 use Rattle.tptp.proofs.Calling.{empty-memory}
 use Rattle.naming.proofs.Indexing.{gathered-even, gathered-held, cleared-unnamed}
-use Rattle.naming.proofs.ClauseIndex.{unindexed, listed-so}
+use Rattle.naming.proofs.ClauseIndex.{unindexed, listed-so, never-unlisted}
 use borrow.Author.Needs.{needs}
 use Rattle.naming.proofs.index.index_text.Statement.{statement}
 use Rattle.naming.proofs.index.index_text.Tie as tie
@@ -71,7 +71,7 @@ same-length c = search needs
 
 -- src/index.rt:104:9
 returns : tie.Need-returns
-returns c = unindexed (c .before .before .before .index-items .ensures .long)
+returns c = let listed = c .before .before .before .index-items .ensures in unindexed (listed .long) (never-unlisted listed (not-true _ (c .if1 .taken)))
 
 -- src/index.rt:106:5
 index-clauses-requires : tie.Need-index-clauses-requires

@@ -1,6 +1,6 @@
-use Rattle.tptp.proofs.Making.{all-numbered}
-use borrow.Author.Tests.{not-false}
-use Rattle.naming.proofs.Indexing.{unlisted, all-listed}
+use Rattle.tptp.proofs.Making.{shapes-over, functions-over, predicates-over, all-numbered}
+use borrow.Author.Tests.{not-true, not-false}
+use Rattle.naming.proofs.Indexing.{unlisted, over-limits, all-listed}
 use borrow.Author.Needs.{needs}
 use Rattle.naming.proofs.index.number_items.Statement.{statement}
 use Rattle.naming.proofs.index.number_items.Tie as tie
@@ -20,7 +20,7 @@ same-length c = search needs
 
 -- src/index.rt:48:9
 returns : tie.Need-returns
-returns c = unlisted (c .before .before .before .before .before .before .before .before .before .before .pre .1 .long)
+returns c = let start = c .before .before .before .before .before .before .before .before .before .before in unlisted (start .pre .1 .long) (over-limits (shapes-over (start .args .words .now) (start .pre .0 .0) (start .pre .0 .1) (start .pre .0 .2) (c .before .before .before .shapes .ensures) (not-true _ (c .if1 .taken))))
 
 -- src/index.rt:50:15
 number-requires : tie.Need-number-requires
@@ -32,7 +32,7 @@ same-length-2 c = search needs
 
 -- src/index.rt:51:9
 returns-2 : tie.Need-returns-2
-returns-2 c = unlisted (c .before .before .before .before .before .before .before .before .before .before .before .before .before .before .before .pre .1 .long)
+returns-2 c = let start = c .before .before .before .before .before .before .before .before .before .before .before .before .before .before .before in unlisted (start .pre .1 .long) (over-limits (functions-over (start .args .words .now) (start .pre .0 .0) (start .pre .0 .1) (start .pre .0 .2) (c .before .before .before .before .before .before .before .before .shapes .ensures) (not-false _ (c .before .before .before .before .before .if1 .left)) (c .before .before .before .number .ensures) (c .if2 .taken)))
 
 -- src/index.rt:53:15
 number-requires-2 : tie.Need-number-requires-2
@@ -44,7 +44,7 @@ same-length-3 c = search needs
 
 -- src/index.rt:54:9
 returns-3 : tie.Need-returns-3
-returns-3 c = unlisted (c .before .before .before .before .before .before .before .before .before .before .before .before .before .before .before .before .before .before .before .before .pre .1 .long)
+returns-3 c = let start = c .before .before .before .before .before .before .before .before .before .before .before .before .before .before .before .before .before .before .before .before in unlisted (start .pre .1 .long) (over-limits (predicates-over (start .args .words .now) (start .pre .0 .0) (start .pre .0 .1) (start .pre .0 .2) (c .before .before .before .before .before .before .before .before .before .before .before .before .before .shapes .ensures) (not-false _ (c .before .before .before .before .before .before .before .before .before .before .if1 .left)) (c .before .before .before .before .before .before .before .before .number .ensures) (c .before .before .before .before .before .if2 .left) (c .before .before .before .number2 .ensures) (c .if3 .taken)))
 
 -- src/index.rt:56:5
 note-both-requires : tie.Need-note-both-requires

@@ -1,0 +1,13 @@
+pub mod Cutting
+pub mod Blanks
+pub mod Rows
+pub mod Free
+pub mod Lines
+pub mod Lowers
+pub mod Symbols
+pub mod Places
+pub mod Naming
+pub mod SameNames
+pub mod OneReading
+pub mod Promises
+pub mod PrintedCases
