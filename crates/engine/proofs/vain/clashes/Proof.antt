@@ -17,4 +17,4 @@ clashes-spec =
     (λ c. search all)
     (λ c κs. search all)
     (λ c. search all)
-    (λ c. clash-told (c .before .before .before .before .before .before .before .args .file .now) (c .before .before .before .before .before .before .before .args .symbol) (c .before .before .before .before .before .kind .ensures) (c .before .before .before .before .if1 .left) (c .before .before .before .wide .ensures) (c .before .kind2 .ensures) (c .if2 .left)))
+    (λ c. let entry = c .before .before .before .before .before .before .before in clash-told (entry .args .file .now) (entry .args .symbol) (c .before .before .before .before .before .kind .ensures) (c .before .before .before .before .if1 .left) (c .before .before .before .wide .ensures) (c .before .kind2 .ensures) (c .if2 .left)))

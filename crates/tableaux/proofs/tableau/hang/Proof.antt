@@ -37,6 +37,6 @@ hang-spec =
     (λ c κs. search all)
     (λ c κs. search all)
     (λ c. search all)
-    (λ c. going-on (c .before .before .before .before .before .before .before .before .before .before .before .loop .inv) (c .before .before .before .before .before .before .before .before .before .before .loop-test .taken) (c .before .before .before .before .before .before .before .before .before .wide .ensures) (c .before .before .before .before .before .before .before .before .wide2 .ensures) (c .before .before .before .before .before .before .hangs .ensures) (not-false _ (c .before .before .before .before .before .if1 .left)) (c .before .before .before .next-of .ensures) (c .before .before .note .ensures))
+    (λ c. let turn = c .before .before .before .before .before .before .before .before .before .before in going-on (turn .before .loop .inv) (turn .loop-test .taken) (c .before .before .before .before .before .before .before .before .before .wide .ensures) (c .before .before .before .before .before .before .before .before .wide2 .ensures) (c .before .before .before .before .before .before .hangs .ensures) (not-false _ (c .before .before .before .before .before .if1 .left)) (c .before .before .before .next-of .ensures) (c .before .before .note .ensures))
     (λ c. search all)
     (λ c. search all))

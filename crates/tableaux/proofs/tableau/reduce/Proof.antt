@@ -9,8 +9,8 @@ reduce-spec =
     (tie.spec
     (λ c κs. search needs)
     (λ c κs. search needs)
-    (λ c κs. reduce-small (c .before .before .before .before .before .before .before .pre) (c .before .before .before .before .before .before .before .args .step))
-    (λ c κs. reduce-meets (c .before .before .before .before .before .before .before .before .before .before .before .pre) (c .before .before .before .before .before .before .before .before .before .before .before .args .step) (c .before .before .before .note-step .ensures) (c .before .before .before .before .before .before .before .literal-of .ensures))
+    (λ c κs. let entry = c .before .before .before .before .before .before .before in reduce-small (entry .pre) (entry .args .step))
+    (λ c κs. let entry = c .before .before .before .before .before .before .before .before .before .before .before in reduce-meets (entry .pre) (entry .args .step) (c .before .before .before .note-step .ensures) (c .before .before .before .before .before .before .before .literal-of .ensures))
     (λ c. search needs)
     (λ c. search needs)
-    (λ c. reduced-as (c .before .before .before .before .before .before .before .before .before .before .before .before .before .before .before .pre) (c .before .before .before .before .before .before .before .before .before .before .before .before .before .before .before .args .step) (c .before .before .before .before .before .before .before .note-step .ensures) (c .before .before .before .before .before .before .before .before .before .before .before .literal-of .ensures) (c .before .before .before .before .before .before .before .before .before .right-of .ensures) (c .before .before .before .meet-atoms .ensures)))
+    (λ c. let entry = c .before .before .before .before .before .before .before .before .before .before .before .before .before .before .before in reduced-as (entry .pre) (entry .args .step) (c .before .before .before .before .before .before .before .note-step .ensures) (c .before .before .before .before .before .before .before .before .before .before .before .literal-of .ensures) (c .before .before .before .before .before .before .before .before .before .right-of .ensures) (c .before .before .before .meet-atoms .ensures)))

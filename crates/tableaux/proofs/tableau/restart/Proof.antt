@@ -9,6 +9,6 @@ restart-spec =
     (tie.spec
     (λ c κs. search needs)
     (λ c κs. search needs)
-    (λ c κs. restart-under (c .before .before .before .before .before .before .before .before .pre) (c .before .before .before .before .before .before .before .before .args .step) (c .before .before .before .before .open-copy .ensures) (c .before .literals-at .ensures))
+    (λ c κs. let entry = c .before .before .before .before .before .before .before .before in restart-under (entry .pre) (entry .args .step) (c .before .before .before .before .open-copy .ensures) (c .before .literals-at .ensures))
     (λ c. search needs)
-    (λ c. restarted-as (c .before .before .before .before .before .before .before .before .before .before .before .pre) (c .before .before .before .before .before .before .before .before .before .before .before .args .step) (c .before .before .before .before .before .before .before .open-copy .ensures) (c .before .before .hang-under .ensures)))
+    (λ c. let entry = c .before .before .before .before .before .before .before .before .before .before .before in restarted-as (entry .pre) (entry .args .step) (c .before .before .before .before .before .before .before .open-copy .ensures) (c .before .before .hang-under .ensures)))

@@ -28,6 +28,6 @@ root-spec =
     (λ c. omega arith)
     (λ c. search needs)
     (λ c. omega arith)
-    (λ c. root-less (c .before .before .before .before .before .before .before .pre .0) (c .before .before .before .before .before .before .before .pre .1) (c .before .before .before .before .before .loop .inv) (c .before .before .wide2 .ensures) (c .if2 .left))
-    (λ c. root-on (c .before .before .before .before .before .before .before .pre .0) (c .before .before .before .before .before .before .before .pre .1) (c .before .before .before .before .before .loop .inv) (c .before .before .wide2 .ensures) (c .if2 .left))
+    (λ c. let entry = c .before .before .before .before .before .before .before in root-less (entry .pre .0) (entry .pre .1) (c .before .before .before .before .before .loop .inv) (c .before .before .wide2 .ensures) (c .if2 .left))
+    (λ c. let entry = c .before .before .before .before .before .before .before in root-on (entry .pre .0) (entry .pre .1) (c .before .before .before .before .before .loop .inv) (c .before .before .wide2 .ensures) (c .if2 .left))
     (λ c. search needs))
