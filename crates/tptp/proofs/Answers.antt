@@ -48,7 +48,7 @@ literal-low : (b : Bool) → literalSort b < 4
 literal-low true = omega arith
 literal-low false = omega arith
 
-literals-sorts : (ls : List Literal) → Each (Before 4) (literalsItems ls)
+pub literals-sorts : (ls : List Literal) → Each (Before 4) (literalsItems ls)
 unfolding literalsItems literalItems Each
 literals-sorts [] = tt
 literals-sorts (l ∷ ls) =
@@ -74,7 +74,7 @@ clause-high Axiom = omega arith
 clause-high Hypothesis = omega arith
 clause-high NegatedConjecture = omega arith
 
-clauses-next : (sort : ℕ) → sort ≤ 4 → (cs : List Clause) → itemAhead sort (clausesItems cs) ≡ 0
+pub clauses-next : (sort : ℕ) → sort ≤ 4 → (cs : List Clause) → itemAhead sort (clausesItems cs) ≡ 0
 unfolding clausesItems clauseItems itemAhead
 clauses-next sort h [] = refl
 clauses-next sort h (c ∷ cs) = rw (le-leb sort (clauseSort (c .role)) (omega (arith, clause-high (c .role))))
@@ -104,7 +104,7 @@ module _ (ps fs vs : List Name) where
     sorts-denied ls (each-rest (Before 3) (literalItems l) (literalsItems ls) e),
   )
 
-items-drop : (text : List ℕ) (n : ℕ) (ms ps : List ℕ) → itemsOf text (drop n ms) (drop n ps) ≡ drop n (itemsOf text ms ps)
+pub items-drop : (text : List ℕ) (n : ℕ) (ms ps : List ℕ) → itemsOf text (drop n ms) (drop n ps) ≡ drop n (itemsOf text ms ps)
 unfolding itemsOf
 items-drop text zero ms ps = refl
 items-drop text (suc n) [] ps = refl

@@ -12,7 +12,7 @@ use table::build::append;
 use table::build::seal;
 
 // Where the next mark of a sort, or of a later one, stands.
-fn seek(marks: &[u32], from: usize, sort: u32) -> usize
+pub fn seek(marks: &[u32], from: usize, sort: u32) -> usize
     ensures { λ r. ⌜ r ≡ from + ahead sort (drop from (now (marks .entry))) ⌝ }
 {
     let mut at = from;

@@ -1,0 +1,4 @@
+pub mod Walking
+pub mod Promises
+pub mod Wordings
+pub mod Witnesses
