@@ -168,6 +168,19 @@ pub fits-other : {f m m′ : List ℕ} {r s : ℕ} → Small f → Literate f m 
     → fits (literalAtReference f m r) (literalAtReference f m′ s) ≡ true
 fits-other {f} {m} {m′} {r} {s} small a b e = fits-at small a b ∙ eq-eqb (wordAt f m′ s) (otherSign (wordAt f m r)) e
 
+-- what a reduction comes to
+abbrev pub reducedTo : List ℕ → List ℕ → Place → ℕ → Tableau → Tableau
+reducedTo f m place other x = afterReduction x (leafAt f m (place .head - 1)) (leavesFrom f m (place .leaves) (restOf m place)) (literalAtReference f m other)
+
+pub reduction-performs : (S : Setting) {f m : List ℕ} {question : ℕ} {place : Place} (other : ℕ) → Ready f m place → 0 < place .head → (p : Play)
+    → Stands f m question place (p .tableau) (p .bindings) → (height : ℕ) → ancestor height (leafAt f m (place .head - 1) .branch) ≡ some (literalAtReference f m other)
+    → fits (leafAt f m (place .head - 1) .literal) (literalAtReference f m other) ≡ true
+    → perform S p (Reduction height) ≡ boundBy (reducedTo f m place other (p .tableau)) (unify (bindingsIn f m) (atom (leafAt f m (place .head - 1) .literal)) (atom (literalAtReference f m other)))
+reduction-performs S {f} {m} {question} {place} other ready some-open p stands height there fitting =
+    performs S p (Reduction height) {y = reducedTo f m place other (p .tableau)} (leafAt f m (place .head - 1) .literal) (literalAtReference f m other) refl
+    (done (reduces (stands .leaves ∙ open-first ready some-open) there fitting refl)) refl
+    ∙ ap (λ bs. boundBy (reducedTo f m place other (p .tableau)) (unify bs (atom (leafAt f m (place .head - 1) .literal)) (atom (literalAtReference f m other)))) (stands .bindings)
+
 -- a reduction that was taken
 module _ (S : Setting) {f m m′ : List ℕ} {question : ℕ} {place : Place} {other step : ℕ} {r : Taken} (ready : Ready f m place) (some-open : 0 < place .head)
     (reduced : Reduced f m m′ place other step r) (p : Play) (stands : Stands f m question place (p .tableau) (p .bindings)) where
@@ -177,7 +190,7 @@ module _ (S : Setting) {f m m′ : List ℕ} {question : ℕ} {place : Place} {o
   module _ (height : ℕ) (there : ancestor height (leaf .branch) ≡ some (literalAtReference f m other))
       (fitting : fits (leaf .literal) (literalAtReference f m other) ≡ true) where
     abbrev after : Tableau
-    after = afterReduction (p .tableau) leaf (leavesFrom f m (place .leaves) (restOf m place)) (literalAtReference f m other)
+    after = reducedTo f m place other (p .tableau)
 
     reduction-stands : Stands f m′ question (r .place) after (bindingsIn f m′)
     reduction-stands =
@@ -193,7 +206,7 @@ module _ (S : Setting) {f m m′ : List ℕ} {question : ℕ} {place : Place} {o
 
     pub reduction-comes : Comes f m′ question (r .place) (r .meeting) (perform S p (Reduction height))
     reduction-comes =
-        rw (performs S p (Reduction height) {y = after} (leaf .literal) (literalAtReference f m other) refl (done (reduces (stands .leaves ∙ open-first ready some-open) there fitting refl)) refl, stands .bindings)
+        rw (reduction-performs S other ready some-open p stands height there fitting)
         (comes f m′ question (r .place) (r .meeting) _ (reduced .outcome) after (λ _. reduction-stands))
 
 -- one copy more of a clause, among the copies of the question

@@ -1,13 +1,14 @@
 -- Machinery: what the functions of the checker promise one another, and what its verdict stands for. No public contract speaks of it.
-use mathlib.Core.Bool.{Bool, false, cond}
+use mathlib.Core.Bool.{Bool, true, false, cond}
 use mathlib.Core.List.{List}
 use mathlib.Core.Option.{Option, none, some}
 use mathlib.Core.Path.{_≡_}
 use Prim.Native.Nat.{ℕ, _+_, _-_, _≤_, _<_}
 use lib.Dec.{eqb}
-use lib.ListN.{length}
+use lib.ListN.{length, getElem?}
 use Rattle.words.specs.declared.Step.{Step}
-use Rattle.table.specs.File.{judge}
+use Rattle.table.specs.File.{judge, tableIn}
+use Rattle.table.specs.Syntax.{Clause, allClauses}
 use Rattle.rules.specs.Setting.{profileOf, readStep, readSteps}
 use Rattle.rules.specs.Comparison.{a-clash, a-circle}
 use Rattle.rules.specs.Verdict.{Refusal, malformed, not-allowed, not-unified, statusOf}
@@ -16,7 +17,11 @@ use Rattle.unification.specs.Places.{mostVariables}
 use Rattle.unification.specs.State.{numberedAt, literalAt, parentAt}
 use Rattle.tableaux.specs.Leaves.{chain, leafAt}
 use Rattle.tableaux.specs.Ready.{Ready, Stands, NotesKept}
+use Rattle.tableaux.specs.Entering.{Enters}
 use Rattle.index.specs.Noting.{Indexed}
+use Rattle.index.specs.declared.entries.Scan.{Scan}
+use Rattle.index.specs.declared.entries.Candidate.{Candidate}
+use Rattle.index.specs.declared.entries.Candidate.the-variants.{Entry, Done}
 use Rattle.engine.specs.Ended.{settingFor, Ended}
 use Rattle.tableaux.specs.declared.tableau.Place.{Place}
 use Rattle.unification.specs.declared.unify.Meeting.{Meeting}
@@ -53,9 +58,19 @@ statusFor NotAllowed = statusOf not-allowed
 statusFor Clashes = statusOf (not-unified a-clash)
 statusFor Circular = statusOf (not-unified a-circle)
 
--- the body's literals are noted, where anything may be extended
-abbrev pub NotedFor : ℕ → List ℕ → List ℕ → Type 0
-NotedFor bound f m = 0 < bound → Indexed f (length f - 4) m
+-- the body's literals are noted, where a check goes by notes
+abbrev pub NotedFor : Bool → List ℕ → List ℕ → Type 0
+NotedFor noted f m = noted ≡ true → Indexed f (length f - 4) m
+
+-- the literal of a number in the clause of a number, and where there is none
+pub record LocatedAt (f : List ℕ) (clause literal : ℕ) (s : Scan) : Type 0 where
+  pub enters : Enters f (tableIn f) (judge f .question) s
+  pub clauses : s .clauses ≡ clause + 1
+  pub literals : s .literals ≡ literal
+
+abbrev pub Located : List ℕ → ℕ → ℕ → Candidate → Type 0
+Located f clause literal (Entry s) = LocatedAt f clause literal s
+Located f clause literal Done = (c : Clause) → getElem? (allClauses (tableIn f)) clause ≡ some c → getElem? (c .literals) literal ≡ none
 
 -- the tableau goes on at a place
 pub record Moved (f m m′ : List ℕ) (place next : Place) : Type 0 where

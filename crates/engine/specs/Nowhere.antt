@@ -58,6 +58,14 @@ pub record Opens (f m : List ℕ) (literal w : ℕ) : Type 0 where
 abbrev pub Opening : List ℕ → List ℕ → ℕ → ℕ → Type 0
 Opening f m literal w = kindOf w ≡ 1 → Opens f m literal w
 
+-- the first arguments of two literals begin with functions or constants that differ
+pub record Parted (f m : List ℕ) (literal other : ℕ) : Type 0 where
+  pub symbol : ℕ
+  pub against : ℕ
+  pub left : Opens f m literal symbol
+  pub right : Opens f m other against
+  pub differ : against ≡ symbol → ⊥
+
 -- one try, and nothing comes of it
 pub record Vain (f m : List ℕ) (task : Task) (place : Place) (candidate : Move) : Type 0 where
   pub says :

@@ -1,10 +1,10 @@
 -- Machinery: how the search over the work words goes along with the rules' own. No public contract speaks of it.
-use mathlib.Core.Bool.{Bool, true, cond, _&&_}
+use mathlib.Core.Bool.{Bool, true, cond, not, _&&_}
 use mathlib.Core.List.{List, [], _∷_, _++_, map}
 use mathlib.Core.Option.{some}
 use mathlib.Core.Path.{_≡_}
-use Prim.Native.Nat.{ℕ, suc, _+_, _*_, _-_, _^_, _≤_, _<_}
-use lib.Dec.{ltb}
+use Prim.Native.Nat.{ℕ, suc, _+_, _*_, _-_, _/_, _^_, _≤_, _<_}
+use lib.Dec.{eqb, leb, ltb}
 use lib.ListN.{length, take, drop, getD, set}
 use Rattle.words.specs.Steps.{stepWord}
 use Rattle.words.specs.declared.Step.{Step}
@@ -27,8 +27,12 @@ use Rattle.unification.specs.Good.{wordAt, LiteralStands, Good, Undone}
 use Rattle.tableaux.specs.Leaves.{leafAt, questionsAmong}
 use Rattle.tableaux.specs.Ready.{openLeaves, Ready, Stands, Later, leafOf}
 use Rattle.engine.specs.Performing.{Comes}
+use Rattle.index.specs.Places.{scannedPlace}
 use Rattle.index.specs.Noting.{keysIn, scansIn, ahead, Linked}
-use Rattle.index.specs.Scanning.{otherSign}
+use Rattle.index.specs.Scanning.{otherSign, entriesFrom}
+use Rattle.index.specs.declared.entries.Scan.{Scan}
+use Rattle.index.specs.declared.entries.Candidate.{Candidate}
+use Rattle.index.specs.declared.entries.Candidate.the-variants.{Entry, Done}
 use Rattle.tableaux.specs.Entering.{Enters, extensionAt}
 use Rattle.engine.specs.declared.Conditions.{Conditions}
 use Rattle.engine.specs.declared.search.Ending.{Ending}
@@ -68,7 +72,7 @@ roomAt f m task place = length (openLeaves f m place) + 7 * (task .bound + 1 - c
 pub record Treats (f m : List ℕ) (task : Task) (place : Place) : Type 0 where
   pub asked : Asked f task
   pub ready : Ready f m place
-  pub linked : 0 < task .bound → Linked f (task .body) m 0
+  pub linked : task .noted ≡ true → Linked f (task .body) m 0
 
 -- the leaf's word with the other sign
 abbrev pub Wanted : List ℕ → List ℕ → Place → ℕ → Type 0
@@ -151,7 +155,7 @@ pub record Finds (f m′ : List ℕ) (task : Task) (place : Place) (r : Searched
   pub count : r .steps ≡ place .steps + length path
   pub noted : take (length path) (drop (stepPlaces + place .steps) m′) ≡ map stepWord path
 
--- how the work words are left, and what the rules say, by how a search ended
+-- How the work words are left, and what the rules say, by how a search ended. A search by scans may be given up with tries left; then nothing is said.
 abbrev pub Leaves : Ending → List ℕ → List ℕ → List ℕ → Place → Searched → Type 0
 Leaves Found f m m′ place r = Noting f m m′ place r
 Leaves Nothing f m m′ place r = Again f m m′ place
@@ -160,7 +164,7 @@ Leaves Out f m m′ place r = Unit {0}
 abbrev pub Tells : Ending → List ℕ → List ℕ → Task → Place → Searched → Play → Result Step → Type 0
 Tells Found f m′ task place r p result = Finds f m′ task place r p result
 Tells Nothing f m′ task place r p result = result ≡ no-way (r .left)
-Tells Out f m′ task place r p result = result ≡ ran-out
+Tells Out f m′ task place r p result = (r .left ≡ 0 → result ≡ ran-out) × (task .noted ≡ true → r .left ≡ 0)
 
 -- A search from a place on, against what the rules say of every play that the work words stand for, to any depth that is enough.
 pub record Runs (f m m′ : List ℕ) (task : Task) (place : Place) (budget : ℕ) (r : Searched) (says : ℕ → Play → Result Step) : Type 0 where
@@ -190,7 +194,10 @@ furtherAt f m task place =
     cond (restartsAt f m task place && ltb (copiesOf m - 1) (task .bound)) (Restart ∷ []) []
     ++ cond (extendsAt f m task place && ltb (copiesOf m - 1) (task .bound)) (extensionsAt f m task place) []
 
--- the extensions from a link on
+-- the extensions from where a scan stands, and from a link on
+abbrev pub extensionsFrom : List ℕ → Task → ℕ → Scan → List Step
+extensionsFrom f task wanted s = map extensionAt (entriesFrom wanted s (drop (s .at) (take (task .body) f)))
+
 abbrev pub extensionsAhead : List ℕ → Task → ℕ → ℕ → List Step
 extensionsAhead f task wanted link = map extensionAt (ahead (keysIn f (task .body)) (scansIn f (task .body)) wanted link)
 
@@ -198,8 +205,43 @@ abbrev pub Rowed : List ℕ → List ℕ → List ℕ → Task → Place → ℕ
 Rowed f m m′ task place budget r steps =
     Runs f m m′ task place budget r (λ depth p. row (plays (settingAt f task)) depth budget p steps)
 
+-- where a scan has come to, and the cost of scans with one more that passed so many words, up to a limit
+abbrev pub reachedBy : Candidate → ℕ → ℕ
+reachedBy (Entry s) body = s .at
+reachedBy Done body = body
+
+unfoldable pub costing : List ℕ → ℕ → ℕ → List ℕ
+costing m limit words = cond (ltb (getD m scannedPlace 0) limit) (set m scannedPlace (getD m scannedPlace 0 + words + 16)) m
+
+-- a search by scans is given up: it has tries left, and its scans have cost so much
+unfoldable pub givesUp : List ℕ → ℕ → ℕ → Bool
+givesUp m limit left = not (eqb left 0) && leb limit (getD m scannedPlace 0)
+
+-- the body's literals are noted, where a search goes by notes
+abbrev pub LinkedFor : Bool → List ℕ → List ℕ → Type 0
+LinkedFor noted f m = noted ≡ true → Linked f (length f - 4) m 0
+
 -- the search as a whole
 abbrev pub Ends : Ending → List ℕ → List ℕ → ℕ → Conditions → ℕ → Searched → Type 0
 Ends Found f m question conditions budget r = ended.Found f m question conditions budget (r .left) (r .steps)
 Ends Nothing f m question conditions budget r = (searchFor (settingFor f conditions) budget ≡ finds-none (budget - r .left)) × (r .left ≤ budget)
 Ends Out f m question conditions budget r = searchFor (settingFor f conditions) budget ≡ runs-out budget
+
+-- the same with notes or by scans; a search by scans may be given up with tries left
+abbrev pub RanBy : Ending → List ℕ → List ℕ → ℕ → Conditions → Bool → ℕ → Searched → Type 0
+RanBy Found f m question conditions noted budget r = Ends Found f m question conditions budget r
+RanBy Nothing f m question conditions noted budget r = Ends Nothing f m question conditions budget r
+RanBy Out f m question conditions noted budget r = (r .left ≡ 0 → Ends Out f m question conditions budget r) × (noted ≡ true → r .left ≡ 0)
+
+pub record Ran (f m : List ℕ) (question : ℕ) (conditions : Conditions) (noted : Bool) (budget : ℕ) (r : Searched) : Type 0 where
+  pub within : r .left ≤ budget
+  pub ends : RanBy (r .ending) f m question conditions noted budget r
+
+-- the tries that a search by scans may make at most; and whether, with so many tries, it is the search with the whole budget
+abbrev pub earlyTries : ℕ → ℕ → ℕ
+earlyTries body budget = cond (ltb budget (body / 8)) budget (body / 8)
+
+unfoldable pub settledBy : Ending → ℕ → ℕ → ℕ → Bool
+settledBy Found left most budget = true
+settledBy Nothing left most budget = true
+settledBy Out left most budget = eqb left 0 && eqb most budget

@@ -1,6 +1,7 @@
 // The checker: an offered proof, step by step.
 use crate::Conditions;
 use crate::profile;
+use crate::walk;
 use index::entries;
 use index::entries::Candidate;
 use index::notes;
@@ -20,7 +21,7 @@ ghost use Rattle.unification.specs.Places.{mostLeaves, workWords};
 ghost use Rattle.unification.specs.Good.{wordAt};
 ghost use Rattle.tableaux.specs.Ready.{Ready, leafOf};
 ghost use Rattle.index.specs.Scanning.{otherSign};
-ghost use Rattle.engine.specs.Checking.{Upward, lineage, aboveOf, judgedBy, statusFor, NotedFor, readFor, restartsLeaf, Checked, Decided};
+ghost use Rattle.engine.specs.Checking.{Upward, lineage, aboveOf, judgedBy, statusFor, NotedFor, Located, readFor, restartsLeaf, Checked, Decided};
 
 // The checker's statuses.
 pub const MALFORMED: u32 = 12;
@@ -32,6 +33,9 @@ pub const CLASHING: u32 = 14;
 pub const LEAVES_OPEN: u32 = 15;
 
 pub const CIRCULAR: u32 = 20;
+
+// The literals of the body are noted for a proof of more steps.
+const LONG: usize = 16;
 
 // What becomes of a step: the tableau goes on, or the step is malformed, not allowed, or its pair does not unify with what is bound: two symbols differ, or a variable would hold itself.
 pub enum Judged {
@@ -119,27 +123,39 @@ fn body_of(file: &[u32]) -> u32
     (file.len() - 4) as u32
 }
 
-// The literals of the body are noted, unless nothing may be extended.
-fn prepare(file: &[u32], work: &mut [u32], bound: u32)
+// The literals of the body are noted, where the proof is long.
+fn prepare(file: &[u32], work: &mut [u32], noted: bool)
     requires { ⌜ (length (now work) ≡ workWords) × (judge (now file) .status ≡ 0) ⌝ }
-    ensures { λ _. ⌜ NotedFor bound (now (file .entry)) (now (work .exit)) ⌝ }
+    ensures { λ _. ⌜ NotedFor noted (now (file .entry)) (now (work .exit)) ⌝ }
 {
-    if bound == 0 {
+    if !noted {
         return;
     }
     notes::note(file, work, body_of(file));
 }
 
+// The literal of a number in the clause of a number, by the notes or by a walk.
+fn entered(file: &[u32], work: &[u32], noted: bool, clause: u32, literal: u32) -> Candidate
+    requires { ⌜ (judge (now file) .status ≡ 0) × NotedFor noted (now file) (now work) × (clause < 512) ⌝ }
+    ensures { λ r. ⌜ Located (now (file .entry)) clause literal r ⌝ }
+{
+    if noted {
+        return notes::entry(work, clause, literal);
+    }
+    walk::entry(file, clause, literal)
+}
+
 fn extension(
     file: &[u32],
     work: &mut [u32],
+    noted: bool,
     conditions: Conditions,
     place: Place,
     word: u32,
     clause: u32,
     literal: u32,
 ) -> Judged
-    requires { ⌜ Ready (now file) (now work) place × (judge (now file) .status ≡ 0) × (conditions .bound ≤ 32) × (readFor conditions word ≡ Step.Extension clause literal) × NotedFor (conditions .bound) (now file) (now work) × (restartsLeaf (now file) (now work) conditions place ≡ false) ⌝ }
+    requires { ⌜ Ready (now file) (now work) place × (judge (now file) .status ≡ 0) × (conditions .bound ≤ 32) × (readFor conditions word ≡ Step.Extension clause literal) × NotedFor noted (now file) (now work) × (restartsLeaf (now file) (now work) conditions place ≡ false) ⌝ }
     ensures { λ r. ⌜ Checked (now (file .entry)) (now (work .entry)) (now (work .exit)) conditions place word r ⌝ }
 {
     if place.head == 0 {
@@ -148,7 +164,7 @@ fn extension(
     if conditions.bound < work[memory::COPIES] {
         return Judged::NotAllowed;
     }
-    let found = notes::entry(work, clause, literal);
+    let found = entered(file, work, noted, clause, literal);
     let Candidate::Entry(entry) = found else {
         return Judged::NotAllowed;
     };
@@ -196,12 +212,13 @@ fn restart(
 fn step_taken(
     file: &[u32],
     work: &mut [u32],
+    noted: bool,
     question: u32,
     conditions: Conditions,
     place: Place,
     word: u32,
 ) -> Judged
-    requires { ⌜ Ready (now file) (now work) place × (judge (now file) .status ≡ 0) × (conditions .bound ≤ 32) × NotedFor (conditions .bound) (now file) (now work) × (question ≡ judge (now file) .question) ⌝ }
+    requires { ⌜ Ready (now file) (now work) place × (judge (now file) .status ≡ 0) × (conditions .bound ≤ 32) × NotedFor noted (now file) (now work) × (question ≡ judge (now file) .question) ⌝ }
     ensures { λ r. ⌜ Checked (now (file .entry)) (now (work .entry)) (now (work .exit)) conditions place word r ⌝ }
 {
     let step = words::steps::decode_for(conditions.restarts, word);
@@ -211,7 +228,7 @@ fn step_taken(
             if restarts_leaf(file, work, conditions, place) {
                 return Judged::NotAllowed;
             }
-            extension(file, work, conditions, place, word, clause, literal)
+            extension(file, work, noted, conditions, place, word, clause, literal)
         }
         Step::Restart => restart(file, work, question, conditions, place, word),
         Step::Malformed => Judged::Malformed,
@@ -241,11 +258,12 @@ pub fn run(
     requires { ⌜ (length (now work) ≡ workWords) × (judge (now file) .status ≡ 0) × (question ≡ judge (now file) .question) × (conditions .bound ≤ 32) ⌝ }
     ensures { λ r. ⌜ Decided (now (file .entry)) (now (work .exit)) question conditions (now (offered .entry)) r ⌝ }
 {
-    prepare(file, work, conditions.bound);
+    let noted = LONG < offered.len();
+    prepare(file, work, noted);
     let mut place = tableau::begin(file, work, question);
     let mut i = 0;
     while i < offered.len() {
-        let judged = step_taken(file, work, question, conditions, place, offered[i]);
+        let judged = step_taken(file, work, noted, question, conditions, place, offered[i]);
         let Judged::On(next) = judged else {
             return Verdict::Refused(status(judged), place.steps);
         };

@@ -3,9 +3,12 @@ use crate::Conditions;
 use crate::profile;
 use crate::vain;
 use index::entries;
+use index::entries::Candidate;
 use index::entries::Scan;
 use index::links;
 use index::notes;
+use index::places;
+use index::scanning;
 use tableaux::tableau;
 use tableaux::tableau::Place;
 use tableaux::tableau::Taken;
@@ -15,26 +18,31 @@ use unification::unify::Meeting;
 use words::Step;
 use words::fields;
 use words::steps;
-ghost use mathlib.Core.Bool.{true};
+ghost use mathlib.Core.Bool.{true, false};
 ghost use mathlib.Core.List.{List};
 ghost use mathlib.Core.Path.{_≡_};
 ghost use Prim.Native.Nat.{ℕ, _≤_, _<_, _-_};
 ghost use lib.ListN.{length, take};
+ghost use Rattle.words.specs.Fields.{kindOf};
 ghost use Rattle.unification.specs.Places.{workWords};
-ghost use Rattle.index.specs.Noting.{Few, Linked};
+ghost use Rattle.index.specs.Scanning.{Standing, IsNext};
 ghost use Rattle.table.specs.File.{judge};
 ghost use Rattle.unification.specs.State.{copiesOf, countOf};
 ghost use Rattle.unification.specs.Good.{wordAt, Good};
 ghost use Rattle.tableaux.specs.Ready.{leafOf};
-ghost use Rattle.engine.specs.Searching.{without, Treats, Wanted, extendsAt, Allows, Takes, Restored, Treated, Attempted, Rowed, reductionsAt, extensionsAt, furtherAt, Ends};
+ghost use Rattle.engine.specs.Searching.{without, Treats, Wanted, extendsAt, Allows, Takes, Restored, Treated, Attempted, Rowed, reductionsAt, extensionsAt, furtherAt, reachedBy, costing, givesUp, LinkedFor, Ran, earlyTries, settledBy, Ends};
 ghost use Rattle.engine.specs.Nowhere.{Opening, Vain};
 
-// What a search goes by: how many words of the file are the body, where the question begins, the bound, and whether positive leaves are restarted.
+// A body of fewer words is noted before the search begins.
+const SHORT: u32 = 512;
+
+// What a search goes by: how many words of the file are the body, where the question begins, the bound, whether positive leaves are restarted, and whether the body's literals are noted.
 pub struct Task {
     pub body: u32,
     pub question: u32,
     pub bound: u32,
     pub restarts: bool,
+    pub noted: bool,
 }
 
 // A candidate of a leaf: the reference of an ancestor's literal, and its height; where a literal is entered; or the restart.
@@ -154,6 +162,11 @@ fn reductions(
         if left == 0 {
             return without(Ending::Out, left);
         }
+        let leaf = tableau::literal_of(work, place.head);
+        if vain::heads_differ(file, work, leaf, literal) {
+            left -= 1;
+            continue;
+        }
         let candidate = Move::Reduce(literal, height);
         let tried = attempt(file, work, task, place, candidate, left - 1);
         let ending = tried.ending;
@@ -180,7 +193,83 @@ fn in_vain(file: &[u32], work: &[u32], task: Task, place: Place, symbol: u32, sc
     vain::dead_end(file, work, place, start, scan.at - start)
 }
 
-// The extensions of the leftmost leaf, by clause, then literal.
+// Where a scan has come to: a literal, or the end of the body.
+fn reached(found: Candidate, body: u32) -> u32
+    ensures { λ r. ⌜ r ≡ reachedBy found body ⌝ }
+{
+    match found {
+        Candidate::Entry(scan) => scan.at,
+        Candidate::Done => body,
+    }
+}
+
+// The next literal with a word, by a scan. What the scans of a search cost is counted, until it is as much as passing the body's words.
+fn sought(file: &[u32], work: &mut [u32], body: u32, wanted: u32, from: Scan) -> Candidate
+    requires { ⌜ (length (now work) ≡ workWords) × (body ≤ length (now file)) × (body ≤ 16000) × (kindOf wanted ≡ 2) × Standing (take body (now file)) from ⌝ }
+    ensures { λ r. ⌜ IsNext (take body (now (file .entry))) wanted from r × (now (work .exit) ≡ costing (now (work .entry)) body (reachedBy r body - from .at)) ⌝ }
+{
+    let found = scanning::next(file, body, wanted, from);
+    let passed = reached(found, body) - from.at;
+    let scanned = work[places::SCANNED];
+    if scanned < body {
+        work[places::SCANNED] = scanned + passed + 16;
+        return found;
+    }
+    found
+}
+
+// Whether a search by scans is given up: it has tries left, and its scans have cost as much as passing the body's words.
+fn given_up(work: &[u32], body: u32, left: u32) -> bool
+    requires { ⌜ length (now work) ≡ workWords ⌝ }
+    ensures { λ r. ⌜ r ≡ givesUp (now (work .entry)) body left ⌝ }
+{
+    if left == 0 {
+        return false;
+    }
+    body <= work[places::SCANNED]
+}
+
+// The extensions of the leftmost leaf, found by a scan of the body, unless the search is given up.
+fn extensions_by_scan(
+    file: &[u32],
+    work: &mut [u32],
+    task: Task,
+    place: Place,
+    wanted: u32,
+    tries: u32,
+) -> Searched
+    requires { ⌜ Treats (now file) (now work) task place × (0 < place .head) × Wanted (now file) (now work) place wanted × (copiesOf (now work) ≤ task .bound) × (extendsAt (now file) (now work) task place ≡ true) × (task .noted ≡ false) ⌝ }
+    ensures { λ r. ⌜ Rowed (now (file .entry)) (now (work .entry)) (now (work .exit)) task place tries r (extensionsAt (now (file .entry)) (now (work .entry)) task place) ⌝ }
+{
+    let symbol = vain::first_symbol(file, work, tableau::literal_of(work, place.head));
+    let mut scan = entries::beginning();
+    let mut left = tries;
+    loop {
+        if given_up(work, task.body, left) {
+            return without(Ending::Out, left);
+        }
+        let candidate = sought(file, work, task.body, wanted, scan);
+        let Candidate::Entry(entry) = candidate else {
+            return without(Ending::Nothing, left);
+        };
+        if left == 0 {
+            return without(Ending::Out, left);
+        }
+        scan = entries::past(entry, wanted);
+        if in_vain(file, work, task, place, symbol, entry) {
+            left -= 1;
+            continue;
+        }
+        let tried = attempt(file, work, task, place, Move::Enter(entry), left - 1);
+        let ending = tried.ending;
+        let Ending::Nothing = ending else {
+            return tried;
+        };
+        left = tried.left;
+    }
+}
+
+// The extensions of the leftmost leaf by the notes of the body's literals: by clause, then literal.
 fn extensions(
     file: &[u32],
     work: &mut [u32],
@@ -189,7 +278,7 @@ fn extensions(
     wanted: u32,
     tries: u32,
 ) -> Searched
-    requires { ⌜ Treats (now file) (now work) task place × (0 < place .head) × Wanted (now file) (now work) place wanted × (copiesOf (now work) ≤ task .bound) × (extendsAt (now file) (now work) task place ≡ true) ⌝ }
+    requires { ⌜ Treats (now file) (now work) task place × (0 < place .head) × Wanted (now file) (now work) place wanted × (copiesOf (now work) ≤ task .bound) × (extendsAt (now file) (now work) task place ≡ true) × (task .noted ≡ true) ⌝ }
     ensures { λ r. ⌜ Rowed (now (file .entry)) (now (work .entry)) (now (work .exit)) task place tries r (extensionsAt (now (file .entry)) (now (work .entry)) task place) ⌝ }
 {
     let symbol = vain::first_symbol(file, work, tableau::literal_of(work, place.head));
@@ -232,7 +321,11 @@ fn further(
         return without(Ending::Nothing, tries);
     }
     if !profile::restarts(task.restarts, word) {
-        return extensions(file, work, task, place, entries::other_sign(word), tries);
+        let wanted = entries::other_sign(word);
+        if task.noted {
+            return extensions(file, work, task, place, wanted, tries);
+        }
+        return extensions_by_scan(file, work, task, place, wanted, tries);
     }
     if tries == 0 {
         return without(Ending::Out, tries);
@@ -262,19 +355,71 @@ fn treat(file: &[u32], work: &mut [u32], task: Task, place: Place, left: u32) ->
     further(file, work, task, place, word, reduced.left)
 }
 
-// The literals of the body are noted and linked, unless nothing may be extended.
-fn prepare(file: &[u32], work: &mut [u32], body: u32, bound: u32)
-    requires { ⌜ (length (now work) ≡ workWords) × (body ≤ length (now file)) × (body ≤ 16000) × Few (take body (now file)) ⌝ }
-    ensures { λ _. ⌜ (0 < bound → Linked (now (file .entry)) body (now (work .exit)) 0) ⌝ }
+// The search from the start, by the notes of the body's literals or by scans of it.
+fn run(
+    file: &[u32],
+    work: &mut [u32],
+    question: u32,
+    conditions: Conditions,
+    noted: bool,
+    budget: u32,
+) -> Searched
+    requires { ⌜ (length (now work) ≡ workWords) × (judge (now file) .status ≡ 0) × (question ≡ judge (now file) .question) × (conditions .bound ≤ 32) × LinkedFor noted (now file) (now work) ⌝ }
+    ensures { λ r. ⌜ Ran (now (file .entry)) (now (work .exit)) question conditions noted budget r ⌝ }
 {
-    if bound == 0 {
-        return;
-    }
-    notes::note(file, work, body);
-    links::link(file, work);
+    let body = (file.len() - 4) as u32;
+    let place = tableau::begin(file, work, question);
+    let task = Task {
+        body,
+        question,
+        bound: conditions.bound,
+        restarts: conditions.restarts,
+        noted,
+    };
+    treat(file, work, task, place, budget)
 }
 
-// A closed tableau for the question within the bound, if the budget lasts; its steps stand among the work words, and no variable is numbered yet.
+// The literals of the body are noted and linked, and the search goes by them.
+fn run_noted(
+    file: &[u32],
+    work: &mut [u32],
+    question: u32,
+    conditions: Conditions,
+    budget: u32,
+) -> Searched
+    requires { ⌜ (length (now work) ≡ workWords) × (judge (now file) .status ≡ 0) × (question ≡ judge (now file) .question) × (conditions .bound ≤ 32) ⌝ }
+    ensures { λ r. ⌜ Ends (r .ending) (now (file .entry)) (now (work .exit)) question conditions budget r ⌝ }
+{
+    notes::note(file, work, (file.len() - 4) as u32);
+    links::link(file, work);
+    run(file, work, question, conditions, true, budget)
+}
+
+// The tries that a search by scans may make at most.
+fn early(body: u32, budget: u32) -> u32
+    ensures { λ r. ⌜ r ≡ earlyTries body budget ⌝ }
+{
+    if budget < body / 8 {
+        return budget;
+    }
+    body / 8
+}
+
+// Whether a search by scans, with so many tries, is the search: it was not given up, nor did it stop for tries that the budget has.
+fn settled(searched: Searched, most: u32, budget: u32) -> bool
+    ensures { λ r. ⌜ r ≡ settledBy (searched .ending) (searched .left) most budget ⌝ }
+{
+    let ending = searched.ending;
+    let Ending::Out = ending else {
+        return true;
+    };
+    if searched.left != 0 {
+        return false;
+    }
+    most == budget
+}
+
+// A closed tableau for the question within the bound, if the budget lasts; its steps stand among the work words, and no variable is numbered yet. A short search of a long body is made by scans, and its literals are noted only for a longer one.
 pub fn find(
     file: &[u32],
     work: &mut [u32],
@@ -286,13 +431,18 @@ pub fn find(
     ensures { λ r. ⌜ Ends (r .ending) (now (file .entry)) (now (work .exit)) question conditions budget r ⌝ }
 {
     let body = (file.len() - 4) as u32;
-    prepare(file, work, body, conditions.bound);
-    let place = tableau::begin(file, work, question);
-    let task = Task {
-        body,
-        question,
-        bound: conditions.bound,
-        restarts: conditions.restarts,
-    };
-    treat(file, work, task, place, budget)
+    if body < SHORT {
+        return run_noted(file, work, question, conditions, budget);
+    }
+    let most = early(body, budget);
+    let first = run(file, work, question, conditions, false, most);
+    if !settled(first, most, budget) {
+        return run_noted(file, work, question, conditions, budget);
+    }
+    let ending = first.ending;
+    Searched {
+        ending,
+        left: first.left + (budget - most),
+        steps: first.steps,
+    }
 }

@@ -5,6 +5,7 @@ use tableaux::tableau::Place;
 use unification::memory;
 use unification::terms;
 use words::fields;
+ghost use mathlib.Core.Bool.{true};
 ghost use mathlib.Core.Path.{_≡_};
 ghost use Prim.Native.Nat.{_+_, _≤_, _<_};
 ghost use lib.ListN.{length, getD};
@@ -12,7 +13,7 @@ ghost use Rattle.words.specs.Fields.{kindOf};
 ghost use Rattle.unification.specs.Places.{mostLeaves};
 ghost use Rattle.unification.specs.Good.{Good, LiteralStands};
 ghost use Rattle.tableaux.specs.Ready.{Noted, Extensible, hangingAt};
-ghost use Rattle.engine.specs.Nowhere.{wordsUp, among, stuckAt, deadEnd, clashing, Opening};
+ghost use Rattle.engine.specs.Nowhere.{wordsUp, among, stuckAt, deadEnd, clashing, Opening, Parted};
 
 // Whether a literal with a word stands on a branch, from a leaf up.
 fn on_branch(file: &[u32], work: &[u32], head: u32, word: u32) -> bool
@@ -99,4 +100,20 @@ pub fn clashes(file: &[u32], at: u32, symbol: u32) -> bool
         return false;
     }
     word != symbol
+}
+
+// Whether the first arguments of two literals, followed through what is bound, begin with different functions or constants.
+pub fn heads_differ(file: &[u32], work: &[u32], leaf: u32, literal: u32) -> bool
+    requires { ⌜ Good (now file) (now work) × LiteralStands (now file) (now work) leaf × LiteralStands (now file) (now work) literal ⌝ }
+    ensures { λ r. ⌜ (r ≡ true → Parted (now (file .entry)) (now (work .entry)) leaf literal) ⌝ }
+{
+    let symbol = first_symbol(file, work, leaf);
+    if fields::kind(symbol) != 1 {
+        return false;
+    }
+    let other = first_symbol(file, work, literal);
+    if fields::kind(other) != 1 {
+        return false;
+    }
+    other != symbol
 }

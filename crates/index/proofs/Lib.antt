@@ -3,6 +3,7 @@ pub mod Listed
 pub mod Scanned
 pub mod Recorded
 pub mod Plain
+pub mod Sought
 pub mod Cleared
 pub mod Linking
 pub mod Reached

@@ -1,5 +1,5 @@
 -- Words that begin neither a clause nor a literal are passed: the place where that ends, and what noting the literals makes of it.
-use mathlib.Core.Path.{_≡_, refl, sym, ap, _∙_}
+use mathlib.Core.Path.{_≡_, refl, sym, ap, subst, _∙_}
 use mathlib.Core.Bool.{Bool, true, false, cond}
 use mathlib.Core.List.{List, [], _∷_}
 use Prim.Native.Nat.{ℕ, _+_, _-_, _≤_, _<_}
@@ -61,18 +61,19 @@ plain-later (w ∷ ws) at = go (ltb 1 (kindOf w)) (plain-later ws (at + 1))
     go true h = omega arith
     go false h = omega arith
 
--- no literal is passed
-module _ {f m : List ℕ} {body count : ℕ} where
-  noting-plain : (ws : List ℕ) (s : Scan) → drop (s .at) (take body f) ≡ ws → Noting f body m s count → Noting f body m (movedTo s (plainFrom (s .at) ws)) count
+-- what holds past each plain word holds past all of them
+module _ (f : List ℕ) {body : ℕ} (fits : body ≤ length f) (P : Scan → Type 0)
+    (on : (s : Scan) → s .at < body → kindOf (getD f (s .at) 0) ≤ 1 → P s → P (pastWord s (getD f (s .at) 0))) where
+  pub past-plains : (ws : List ℕ) (s : Scan) → drop (s .at) (take body f) ≡ ws → P s → P (movedTo s (plainFrom (s .at) ws))
   unfolding plainFrom
-  noting-plain [] s e g = g
-  noting-plain (w ∷ ws) s e g = go (ltb 1 (kindOf w)) refl (λ t d n. noting-plain ws t d n)
+  past-plains [] s e g = g
+  past-plains (w ∷ ws) s e g = go (ltb 1 (kindOf w)) refl (λ t d n. past-plains ws t d n)
     where
       inside : s .at < body
       inside = omega (arith, simp (length-drop, length-take) at (ap length e))
 
       here : drop (s .at) (take body f) ≡ getD f (s .at) 0 ∷ drop (s .at + 1) (take body f)
-      here = body-from f body (g .fits) inside refl
+      here = body-from f body fits inside refl
 
       word : getD f (s .at) 0 ≡ w
       word = let both : getD f (s .at) 0 ∷ drop (s .at + 1) (take body f) ≡ w ∷ ws = sym here ∙ e in cc
@@ -80,16 +81,20 @@ module _ {f m : List ℕ} {body count : ℕ} where
       later : drop (s .at + 1) (take body f) ≡ ws
       later = let both : getD f (s .at) 0 ∷ drop (s .at + 1) (take body f) ≡ w ∷ ws = sym here ∙ e in cc
 
-      go : (b : Bool) → ltb 1 (kindOf w) ≡ b → ((t : Scan) → drop (t .at) (take body f) ≡ ws → Noting f body m t count → Noting f body m (movedTo t (plainFrom (t .at) ws)) count)
-          → Noting f body m (movedTo s (cond b (s .at) (plainFrom (s .at + 1) ws))) count
+      go : (b : Bool) → ltb 1 (kindOf w) ≡ b → ((t : Scan) → drop (t .at) (take body f) ≡ ws → P t → P (movedTo t (plainFrom (t .at) ws)))
+          → P (movedTo s (cond b (s .at) (plainFrom (s .at + 1) ws)))
       go true d others = g
       go false d others =
           let low : kindOf (getD f (s .at) 0) ≤ 1 = omega (arith, ap kindOf word, ltb-false 1 (kindOf w) d) in
           let next : movedTo s (s .at + 1) ≡ pastWord s (getD f (s .at) 0) = past-other s (getD f (s .at) 0) refl (λ q. omega (arith, q)) (λ q. omega (arith, q)) in
-          others (movedTo s (s .at + 1)) later (noting-other g inside refl refl (λ q. omega (arith, q)) next)
+          others (movedTo s (s .at + 1)) later (subst P (sym next) (on s inside low g))
 
+-- no literal is passed
+module _ {f m : List ℕ} {body count : ℕ} where
   pub noting-passed : {s r : Scan} → r ≡ movedTo s (plainFrom (s .at) (drop (s .at) (take body f))) → Noting f body m s count → Noting f body m r count
-  noting-passed {s} e g = rw e (noting-plain (drop (s .at) (take body f)) s refl g)
+  noting-passed {s} e g =
+      rw e
+      (past-plains f (g .fits) (λ (t : Scan). Noting f body m t count) (λ t inside low n. noting-other n inside refl refl (λ q. omega (arith, q)) refl) (drop (s .at) (take body f)) s refl g)
 
 -- after a word that is no literal's
 module _ {f m : List ℕ} {body count : ℕ} {scan : Scan} (g : Noting f body m scan count) (h : scan .at < body) {q : ℕ} (eq : q ≡ scan .at) {next : Scan} (p : next ≡ pastWord scan (getD f q 0)) where

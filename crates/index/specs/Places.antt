@@ -2,6 +2,10 @@
 -- Powers of two that are fields of a note's words stand in `Noting` as they are.
 use Prim.Native.Nat.{ℕ}
 
+-- what the scans of a search have cost
+abbrev pub scannedPlace : ℕ
+scannedPlace = 35
+
 -- the literals that a body may have: 7 for each of 512 clauses
 abbrev pub mostNoted : ℕ
 mostNoted = 3584

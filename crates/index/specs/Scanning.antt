@@ -4,7 +4,7 @@ use mathlib.Core.List.{List, [], _∷_}
 use mathlib.Core.Path.{_≡_}
 use Prim.Native.Nat.{ℕ, _+_, _-_, _^_, _≤_, _<_}
 use lib.Dec.{eqb}
-use lib.ListN.{length, take, getD}
+use lib.ListN.{length, take, drop, getD}
 use Rattle.words.specs.Fields.{kindOf, negativeOf}
 use Rattle.index.specs.declared.entries.Scan.{Scan}
 use Rattle.index.specs.declared.entries.Candidate.{Candidate}
@@ -38,6 +38,18 @@ pub record Standing (words : List ℕ) (s : Scan) : Type 0 where
   pub clauses : s .clauses ≤ s .at
   pub literals : s .literals ≤ s .at
   pub passed : s ≡ pastWords begun (take (s .at) words)
+
+-- The first of the scans that are left stands here, and the others come after it.
+pub record NextEntry (words : List ℕ) (wanted : ℕ) (from s : Scan) : Type 0 where
+  pub standing : Standing words s
+  pub later : from .at ≤ s .at
+  pub inside : s .at < length words
+  pub here : getD words (s .at) 0 ≡ wanted
+  pub first : entriesFrom wanted from (drop (from .at) words) ≡ s ∷ entriesFrom wanted (pastWord s wanted) (drop (s .at + 1) words)
+
+abbrev pub IsNext : List ℕ → ℕ → Scan → Candidate → Type 0
+IsNext words wanted from (Entry s) = NextEntry words wanted from s
+IsNext words wanted from Done = entriesFrom wanted from (drop (from .at) words) ≡ []
 
 -- a literal of this number, in a clause of this number
 unfoldable pub isEntry : ℕ → ℕ → Scan → ℕ → Bool

@@ -45,7 +45,7 @@ fn moved(scan: Scan, at: u32) -> Scan
 }
 
 // The scan past the words that begin neither a clause nor a literal.
-fn past_plain(file: &[u32], scan: Scan, body: u32) -> Scan
+pub fn past_plain(file: &[u32], scan: Scan, body: u32) -> Scan
     requires { ⌜ (scan .at ≤ body) × (body ≤ length (now file)) ⌝ }
     ensures { λ r. ⌜ r ≡ movedTo scan (plainFrom (scan .at) (drop (scan .at) (take body (now (file .entry))))) ⌝ }
 {

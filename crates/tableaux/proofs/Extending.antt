@@ -12,6 +12,8 @@ use Rattle.rules.specs.Machinery.Unify.{Unified, made, unify}
 use Rattle.unification.specs.Places.{mostLeaves, stepPlaces, workWords, mostCopies, copiesPlace}
 use Rattle.unification.specs.State.{startAt, copiesOf, stepAt, literalAtReference, bindingsIn}
 use Rattle.unification.specs.Good.{wordAt, LiteralStands, Alike as AlikeAt, Good, Outcome, Met}
+use Rattle.unification.specs.Thorough.{Apart}
+use Rattle.unification.proofs.Newest.{good-older}
 use Rattle.tableaux.specs.Ready.{Later, OneMore, leafOf, Extensible, Extended, opened, hangingAt, hungUnder, placeUnder}
 use Rattle.tableaux.specs.declared.tableau.Place.{Place}
 use Rattle.unification.specs.declared.unify.Meeting.{Meeting}
@@ -66,6 +68,16 @@ module _ {f m : List ℕ} {place : Place} {start offset : ℕ} (x : Extensible f
         right = new-stands .1;
         predicate = rw (kept, new-word) (x .alike .predicate);
         arity = rw (kept, new-word) (x .alike .arity);
+      }
+
+  -- nothing leads to the copy that was just made
+  begun-apart : Apart f begun (leafOf m place) new
+  begun-apart =
+      let small = new-stands .0 in
+      let c : new / 256 ≡ copiesOf m = omega arith in
+      record {
+        lower = omega (arith, leaf-stands (x .openable) .made);
+        older = rw (c, bound-carried (x .openable .ready .good) (begun-carries (x .openable) step)) (good-older (x .openable .ready .good));
       }
 
   fewer : length (hangingAt f start offset) ≡ literalsOf (getD f start 0) - 1
@@ -126,8 +138,8 @@ module _ {f m : List ℕ} {place : Place} {start offset : ℕ} (x : Extensible f
     literal-is : literal ≡ leafOf m place
     literal-is = el ∙ ap (λ (l : List ℕ). leafOf l place) (eo .1) ∙ begun-leaf (x .openable) step
 
-    pub extend-meets : Good f m₁ × AlikeAt f m₁ literal (copy * 256 + offset)
-    extend-meets = rw (literal-is, eo .0, eo .1) (begun-good (x .openable) step, begun-alike)
+    pub extend-meets : Good f m₁ × AlikeAt f m₁ literal (copy * 256 + offset) × Apart f m₁ literal (copy * 256 + offset)
+    extend-meets = rw (literal-is, eo .0, eo .1) (begun-good (x .openable) step, begun-alike, begun-apart)
 
     module _ {m₂ : List ℕ} {q : Meeting} (met : Met f m₁ m₂ q (unify (bindingsIn f m₁) (atom (literalAtReference f m₁ literal)) (atom (literalAtReference f m₁ (copy * 256 + offset))))) where
       met-as : Met f begun m₂ q (unify (bindingsIn f begun) (atom (literalAtReference f begun (leafOf m place))) (atom (literalAtReference f begun new)))

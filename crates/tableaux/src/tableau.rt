@@ -218,7 +218,7 @@ pub fn extend(
 {
     let copy = open_copy(work, start, place.steps, step);
     let literal = literal_of(work, place.head);
-    let met = unify::meet_atoms(file, work, literal, copy * 256 + offset);
+    let met = unify::meet_entered(file, work, literal, copy * 256 + offset);
     let Meeting::Made = met else {
         return Taken {
             meeting: met,

@@ -23,7 +23,7 @@ use Rattle.unification.specs.Good.{wordAt, Inside, Ahead, LiteralStands,
 use Rattle.unification.specs.declared.unify.Meeting.{Meeting}
 use Rattle.unification.proofs.TermLists.{arity-under}
 use Rattle.unification.proofs.Words.{some-literal, literal-begins, exact}
-use Rattle.unification.proofs.References.{further, variablesAt, tailOf, own-inside, words-here, next-points, next-first}
+use Rattle.unification.proofs.References.{further, variablesAt, tailOf, own-inside, words-here, next-points, next-copy, next-first}
 use Rattle.unification.proofs.Meet.{met-as}
 
 first-all : {X : Type 0} (ts : Terms X) → first (arity ts) ts ≡ ts
@@ -55,6 +55,9 @@ module _ {f m : List ℕ} {r : ℕ} (p : LiteralStands f m r) where
 
   pub literal-ahead : Ahead f m (r + 1) (arityOf (wordAt f m r))
   literal-ahead h = next-points f m r (arityOf (wordAt f m r)) h arguments-owed (p .made)
+
+  pub literal-next : 0 < arityOf (wordAt f m r) → (r + 1) / 256 ≡ r / 256
+  literal-next h = next-copy f m r (arityOf (wordAt f m r)) h arguments-owed
 
   arguments : tailOf f m r ≡ first (arityOf (wordAt f m r)) (termsOf f m (r + 1))
   arguments =

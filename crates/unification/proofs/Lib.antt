@@ -18,4 +18,5 @@ pub mod MeetAll
 pub mod Atoms
 pub mod MeetApplied
 pub mod ThoroughAtoms
+pub mod Newest
 pub mod KeptStarts

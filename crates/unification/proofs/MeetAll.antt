@@ -11,7 +11,7 @@ use Rattle.rules.proofs.Unify.Laws.{unifies-nil, unifies-then}
 use Rattle.unification.specs.Places.{mostReferences}
 use Rattle.unification.specs.State.{Points, termOf, termsOf, bindingsIn}
 use Rattle.unification.specs.Good.{wordAt, argumentsOf, Inside, Ahead, Good, Grown, Passed, Outcome}
-use Rattle.unification.specs.Thorough.{Quiet, Arguments, Noting, Meets}
+use Rattle.unification.specs.Thorough.{Quiet, Arguments, pairsMet, Noting, Meets}
 use Rattle.unification.specs.declared.unify.Meeting.{Meeting}
 use Rattle.unification.specs.declared.unify.Meeting.the-variants.{Made, Clash, Circle}
 use Rattle.unification.proofs.References.{tailOf, few, function-first, function-further, function-next, function-arguments, function-arity, points-fewer, first-terms}
@@ -22,9 +22,6 @@ use Rattle.unification.proofs.Push.{grown-none, grown-then}
 use Rattle.unification.proofs.Heft.{heft, heftOf, heft-first, heft-in-place, heft-rest}
 use Rattle.unification.proofs.Thorough.{noting-none, noting-then}
 
-abbrev pub Pairs : List ℕ → List ℕ → ℕ → ℕ → ℕ → Unified
-Pairs f m l r count = unifies (bindingsIn f m) (first count (termsOf f m l)) (first count (termsOf f m r))
-
 -- so many pairs are left, from two references on
 pub record Going (f m₀ n₀ : List ℕ) (left right count : ℕ) (m n : List ℕ) (l r more : ℕ) : Type 0 where
   pub grown : Grown f m₀ m
@@ -32,7 +29,7 @@ pub record Going (f m₀ n₀ : List ℕ) (left right count : ℕ) (m n : List �
   pub quiet : Quiet f m n
   pub lefts : Ahead f m l more
   pub rights : Ahead f m r more
-  pub same : Pairs f m₀ left right count ≡ Pairs f m l r more
+  pub same : pairsMet f m₀ left right count ≡ pairsMet f m l r more
   pub lighter : heft f m l more ≤ heft f m₀ left count
 
 -- an outcome that is not the end of the pairs
@@ -42,11 +39,11 @@ Stops Clash = Unit {0}
 Stops Circle = Unit {0}
 
 module _ {f m₀ n₀ : List ℕ} {left right count : ℕ} where
-  begin : Good f m₀ → Quiet f m₀ n₀ → Ahead f m₀ left count → Ahead f m₀ right count → Going f m₀ n₀ left right count m₀ n₀ left right count
-  begin h k p q = record { grown = grown-none h; noting = noting-none; quiet = k; lefts = p; rights = q; same = refl; lighter = omega arith }
+  pub all-start : Good f m₀ → Quiet f m₀ n₀ → Ahead f m₀ left count → Ahead f m₀ right count → Going f m₀ n₀ left right count m₀ n₀ left right count
+  all-start h k p q = record { grown = grown-none h; noting = noting-none; quiet = k; lefts = p; rights = q; same = refl; lighter = omega arith }
 
   module _ {m n : List ℕ} {l r more : ℕ} (g : Going f m₀ n₀ left right count m n l r more) where
-    pub all-none : more ≡ 0 → Meets f m₀ m n₀ n Made (Pairs f m₀ left right count)
+    pub all-none : more ≡ 0 → Meets f m₀ m n₀ n Made (pairsMet f m₀ left right count)
     unfolding first
     all-none e = record { grown = g .grown; noting = g .noting; on = λ _. g .quiet; outcome = λ _. rw e at (g .same) ∙ unifies-nil (bindingsIn f m) }
 
@@ -54,10 +51,10 @@ module _ {f m₀ n₀ : List ℕ} {left right count : ℕ} where
       one-more : more ≡ suc (more - 1)
       one-more = omega arith
 
-      left-points : Points f m l (suc (more - 1))
+      pub left-points : Points f m l (suc (more - 1))
       left-points = rw one-more at (g .lefts (omega arith))
 
-      right-points : Points f m r (suc (more - 1))
+      pub right-points : Points f m r (suc (more - 1))
       right-points = rw one-more at (g .rights (omega arith))
 
       pub all-left : Points f m l 1
@@ -113,7 +110,7 @@ module _ {f m₀ n₀ : List ℕ} {left right count : ℕ} where
         right-arity : arity (first args (tailOf f m r)) ≡ args
         right-arity = rw right-word at (ap arity (function-arguments right-points right-applied) ∙ function-arity right-points right-applied)
 
-        in-place : Pairs f m l r (suc (more - 1)) ≡ Pairs f m (l + 1) (r + 1) (args + (more - 1))
+        in-place : pairsMet f m l r (suc (more - 1)) ≡ pairsMet f m (l + 1) (r + 1) (args + (more - 1))
         in-place =
             ap₂ (unifies (bindingsIn f m)) (function-first left-points applied) right-first
             ∙ unifies-in-place (symbolOf (wordAt f m l)) args (more - 1) (tailOf f m l) (tailOf f m r) (bindingsIn f m) (g .grown .good .sound)
@@ -131,7 +128,7 @@ module _ {f m₀ n₀ : List ℕ} {left right count : ℕ} where
               quiet = g .quiet;
               lefts = function-next left-points applied;
               rights = right-ahead;
-              same = g .same ∙ ap (Pairs f m l r) one-more ∙ in-place;
+              same = g .same ∙ ap (pairsMet f m l r) one-more ∙ in-place;
               lighter =
                   let z : heft f m l more ≡ heft f m l (suc (more - 1)) = ap (heft f m l) one-more in
                   omega (arith, heft-in-place left-points applied, g .lighter);
@@ -140,10 +137,10 @@ module _ {f m₀ n₀ : List ℕ} {left right count : ℕ} where
             owed : o ≡ args + (more - 1)
             owed = let z : argumentsOf (kindOf v) v ≡ args = rw k (ap arityOf ev) in omega (arith, eo, z)
 
-      split : Pairs f m₀ left right count
+      split : pairsMet f m₀ left right count
           ≡ after (unify (bindingsIn f m) (termOf f m l) (termOf f m r)) (λ bs. unifies bs (first (more - 1) (rest 1 (termsOf f m l))) (first (more - 1) (rest 1 (termsOf f m r))))
       split =
-          g .same ∙ ap (Pairs f m l r) one-more
+          g .same ∙ ap (pairsMet f m l r) one-more
           ∙ ap₂ (unifies (bindingsIn f m)) (first-terms left-points (more - 1)) (first-terms right-points (more - 1))
           ∙ unifies-then (bindingsIn f m) (termOf f m l) (termOf f m r) _ _ (g .grown .good .sound)
 
@@ -154,11 +151,11 @@ module _ {f m₀ n₀ : List ℕ} {left right count : ℕ} where
         noting : Noting n₀ n′
         noting = noting-then (g .noting) (met .noting)
 
-        pub all-stops : Stops q → Meets f m₀ m′ n₀ n′ q (Pairs f m₀ left right count)
+        pub all-stops : Stops q → Meets f m₀ m′ n₀ n′ q (pairsMet f m₀ left right count)
         unfolding after Stops
         all-stops s = record { grown = grown; noting = noting; on = met .on; outcome = λ a. go q s (met .outcome a) }
           where
-            go : (q : Meeting) → Stops q → Outcome f m′ q (unify (bindingsIn f m) (termOf f m l) (termOf f m r)) → Outcome f m′ q (Pairs f m₀ left right count)
+            go : (q : Meeting) → Stops q → Outcome f m′ q (unify (bindingsIn f m) (termOf f m l) (termOf f m r)) → Outcome f m′ q (pairsMet f m₀ left right count)
             go Made s o = absurd s
             go Clash s o = rw o at split
             go Circle s o = rw o at split
@@ -167,15 +164,15 @@ module _ {f m₀ n₀ : List ℕ} {left right count : ℕ} where
           quiet : Quiet f m′ n′
           quiet = met .on e
 
-          made-so : Pairs f m₀ left right count ≡ unifies (bindingsIn f m′) (first (more - 1) (rest 1 (termsOf f m l))) (first (more - 1) (rest 1 (termsOf f m r)))
+          made-so : pairsMet f m₀ left right count ≡ unifies (bindingsIn f m′) (first (more - 1) (rest 1 (termsOf f m l))) (first (more - 1) (rest 1 (termsOf f m r)))
           unfolding after
           made-so = let o : Outcome f m′ Made (unify (bindingsIn f m) (termOf f m l) (termOf f m r)) = rw e at (met .outcome (quiet .awake)) in rw o at split
 
-          pub all-last : more - 1 ≡ 0 → Meets f m₀ m′ n₀ n′ Made (Pairs f m₀ left right count)
+          pub all-last : more - 1 ≡ 0 → Meets f m₀ m′ n₀ n′ Made (pairsMet f m₀ left right count)
           unfolding first
           all-last z = record { grown = grown; noting = noting; on = λ _. quiet; outcome = λ _. rw z at made-so ∙ unifies-nil (bindingsIn f m′) }
 
-          still : {k n : ℕ} → Points f m k n → (Points f m′ k n) × (termsOf f m′ k ≡ termsOf f m k)
+          pub still : {k n : ℕ} → Points f m k n → (Points f m′ k n) × (termsOf f m′ k ≡ termsOf f m k)
           still {k} p =
               let c = in-copies (g .grown .good .copies) p in
               (same-points (met .grown .kept .copies) f k c p, same-terms (met .grown .kept .copies) f k c)
@@ -220,4 +217,4 @@ all-begin {f} {m} {n} {left} {right} h k p ew ea =
     subst
     (λ (more : ℕ). Going f m n (left + 1) (right + 1) (arityOf (wordAt f m left)) m n (left + 1) (right + 1) more)
     (sym (ea ∙ ap arityOf ew))
-    (begin h k (p .lefts) (p .rights))
+    (all-start h k (p .lefts) (p .rights))

@@ -4,20 +4,22 @@ use mathlib.Core.Bool.{Bool, true, false}
 use mathlib.Core.List.{List}
 use mathlib.Core.Path.{_≡_, sym, _∙_, ap}
 use native.Mathlib.Omega.{arith}
-use Prim.Native.Nat.{ℕ, _+_, _≤_, _<_}
+use Prim.Native.Nat.{ℕ, _+_, _*_, _≤_, _<_}
+use Rattle.words.specs.Fields.{arityOf}
 use Rattle.table.specs.Syntax.{under}
 use Rattle.rules.specs.Machinery.Unify.{made, solution, unify}
 use Rattle.rules.proofs.Unify.{unify-answers}
 use Rattle.rules.proofs.Unify.Solution.{solution-satisfies}
 use Rattle.unification.specs.Places.{mostReferences}
 use Rattle.unification.specs.State.{termOf, bindingsIn}
-use Rattle.unification.specs.Good.{Good, Outcome}
-use Rattle.unification.specs.Thorough.{Equal, Rooted, Quiet, argumentsMet, Applied, Spent, Meets}
+use Rattle.unification.specs.Good.{wordAt, Ahead, Good, Outcome}
+use Rattle.unification.specs.Thorough.{Equal, Rooted, Quiet, pairsMet, Applied, Spent, Meets}
 use Rattle.unification.specs.declared.unify.Meeting.{Meeting}
 use Rattle.unification.specs.declared.unify.Meeting.the-variants.{Made, Clash}
 use Rattle.unification.proofs.Walk.{small}
 use Rattle.unification.proofs.KeptStarts.{same-term}
 use Rattle.unification.proofs.Push.{grown-none}
+use Rattle.unification.proofs.Heft.{heft}
 use Rattle.unification.proofs.Thorough.{noting-then, noting-set, equal-grown, notes-same, notes-link}
 use Rattle.unification.proofs.Meet.{meets-as, meets-still}
 
@@ -30,6 +32,20 @@ module _ {f m n : List ℕ} {r s : ℕ} (h : Good f m) (k : Quiet f m n) (p : Ap
 
   pub applied-right : s < mostReferences
   applied-right = small h (p .right)
+
+  -- so many arguments, as they are read
+  module _ {w count : ℕ} (ew : w ≡ wordAt f m r) (ec : count ≡ arityOf w) where
+    applied-count : count ≡ arityOf (wordAt f m r)
+    applied-count = ec ∙ ap arityOf ew
+
+    pub applied-lefts : Ahead f m (r + 1) count
+    applied-lefts = rw applied-count (p .arguments .lefts)
+
+    pub applied-rights : Ahead f m (s + 1) count
+    applied-rights = rw applied-count (p .arguments .rights)
+
+    pub applied-falls : 3 * heft f m (r + 1) count < 3 * heft f m (r + 1) (arityOf (wordAt f m r)) + 1
+    applied-falls = let z : heft f m (r + 1) count ≡ heft f m (r + 1) (arityOf (wordAt f m r)) = ap (heft f m (r + 1)) applied-count in omega arith
 
   module _ {a b : ℕ} (ga : Rooted n r a) (gb : Rooted n s b) where
     pub applied-known : a ≡ b → Goal m n Made
@@ -53,11 +69,11 @@ module _ {f m n : List ℕ} {r s : ℕ} (h : Good f m) (k : Quiet f m n) (p : Ap
       pub applied-quiet : q₁ ≡ false → Quiet f m n₁
       applied-quiet e = notes-same k (t .others) (t .on e)
 
-      module _ {m′ n₂ : List ℕ} {q : Meeting} (met : Meets f m m′ n₁ n₂ q (argumentsMet f m r s)) where
+      module _ {m′ n₂ : List ℕ} {q : Meeting} {w count : ℕ} (ew : w ≡ wordAt f m r) (ec : count ≡ arityOf w) (met : Meets f m m′ n₁ n₂ q (pairsMet f m (r + 1) (s + 1) count)) where
         pub applied-met : Goal m′ n₂ q
         applied-met =
             meets-as
-            (p .same)
+            (p .same ∙ ap (pairsMet f m (r + 1) (s + 1)) (sym (applied-count ew ec)))
             (record { grown = met .grown; noting = noting-then (t .noting) (met .noting); on = met .on; outcome = met .outcome })
 
         module _ (e : q ≡ Made) where

@@ -15,17 +15,17 @@ use Rattle.table.specs.Decode.{first}
 use Rattle.rules.specs.Substitution.{Variable}
 use Rattle.rules.specs.Machinery.Unify.{Bindings, solution, occurs, variables, variablesAmong}
 use Rattle.rules.proofs.Unify.Tests.{decide, never, same-refl}
-use Rattle.rules.proofs.Unify.Solution.{unbound-solution}
+use Rattle.rules.proofs.Unify.Solution.{unbound-solution, follow-solution, follow-followed}
 use Rattle.rules.proofs.Unify.Following.{valueOf, solution-value}
 use Rattle.unification.specs.Places.{mostVariables, mostReferences, markPlaces}
 use Rattle.unification.specs.State.{countOf, boundAt, Points, termOf, termsOf, variableOf, bindingsIn}
-use Rattle.unification.specs.Good.{wordAt, variableAt, argumentsOf, variablesHere, occursIn, occursUnder, Inside, Ahead, Good}
+use Rattle.unification.specs.Good.{wordAt, variableAt, argumentsOf, variablesHere, occursIn, occursUnder, Inside, Ahead, Good, FollowedTo}
 use Rattle.unification.proofs.TermLists.{All, all-right, occursIn-append, occurs-variables}
 use Rattle.unification.proofs.References.{few, points-fewer, first-terms, step-points, step-variables, variable-copy}
 use Rattle.unification.proofs.Walk.{few-variables, inside, small}
 use Rattle.unification.proofs.Bound.{bindings-length, bound-entry, bound-value, unbound, variable-differs}
 use Rattle.unification.specs.Thorough.{spareOf, markAt, Absent, Checking, Valued, Noting, Spent, Looked}
-use Rattle.unification.proofs.Ranks.{weight, value-lighter, variables-lighter}
+use Rattle.unification.proofs.Ranks.{weight, value-lighter, followed-lighter, variables-lighter}
 use Rattle.unification.proofs.Thorough.{set-here, noting-none, noting-then, noting-set, down-same, links-same, notes-same}
 
 -- how heavy the variable at a word is
@@ -237,6 +237,21 @@ checking-mark {f} {m} {n} {n′} {v} {met} c lm absent en =
     here y u d e =
         let e′ : getD (set n (markPlaces + met) (v + 1)) (markPlaces + met) 0 ≡ u + 1 = rw (en, d) at e in
         (omega (arith, set-here n (markPlaces + met) (v + 1) (omega arith)), rw d absent)
+
+-- what a variable is bound to, followed to its end
+module _ {f m : List ℕ} (h : Good f m) {r to : ℕ} (s : FollowedTo f m r to) where
+  same-end : under (solution (bindingsIn f m)) (termOf f m to) ≡ under (solution (bindingsIn f m)) (termOf f m r)
+  same-end = ap (under (solution (bindingsIn f m))) (s .same) ∙ follow-solution (bindingsIn f m) (termOf f m r) (h .sound)
+
+  pub end-valued : {met : ℕ} → Valued f m met r → Valued f m met to
+  end-valued y = record { small = y .small; points = s .points; same = y .same ∙ sym same-end }
+
+  pub end-as : (v : ℕ) → occursUnder f m v (termOf f m to) ≡ occursUnder f m v (termOf f m r)
+  end-as v = ap (occurs (variableOf v)) same-end
+
+  pub end-falls : 3 * weight (bindingsIn f m) (termOf f m to) + 2 < 3 * weight (bindingsIn f m) (termOf f m r) + 3
+  end-falls =
+      omega (arith, followed-lighter (bindingsIn f m) (termOf f m to) (termOf f m r) (rw (s .same) (follow-followed (bindingsIn f m) (h .sound) (termOf f m r))) same-end)
 
 module _ {f m n : List ℕ} {v met r : ℕ} (c : Checking f m n v) (y : Valued f m met r) where
   through : occurs (variableOf v) (solution (bindingsIn f m) (variableOf met)) ≡ occursUnder f m v (termOf f m r)

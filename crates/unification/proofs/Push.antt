@@ -134,7 +134,7 @@ module _ {f m : List ℕ} {v r : ℕ} (h : Good f m) (b : Binds f m v r) where
                 change .others _ (entry-small (h .copies) t) (λ z. omega (arith, rw z at (t .bound), b .free));
           }
 
-      pushed-bound : bindingsIn f (pushed m v r) ≡ record { variable = variableOf v; value = termOf f m r } ∷ bindingsIn f m
+      pub pushed-bound : bindingsIn f (pushed m v r) ≡ record { variable = variableOf v; value = termOf f m r } ∷ bindingsIn f m
       pushed-bound = rw count (push-bindings h change r (b .free) (b .copy) here last (b .points))
 
       pub bind-pushed : {m′ : List ℕ} → m′ ≡ pushed m v r → Met f m m′ Made (bind (bindingsIn f m) (variableOf v) (termOf f m r))

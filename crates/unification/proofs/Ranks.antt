@@ -2,14 +2,15 @@
 use mathlib.Core.Bool.{Bool, true, false, cond}
 use mathlib.Core.List.{[], _∷_}
 use mathlib.Core.Option.{some}
-use mathlib.Core.Path.{_≡_, ap}
+use mathlib.Core.Path.{_≡_, refl, ap}
 use native.Mathlib.Omega.{arith}
 use Prim.Native.Nat.{ℕ, zero, suc, _+_, _*_, _≤_, _<_}
 use lib.ListN.{length}
 use Rattle.table.specs.Syntax.{Term, var, app, under, unders}
 use Rattle.rules.specs.Substitution.{Variable, sameVariable}
 use Rattle.rules.specs.Machinery.Unify.{Bindings, solution, height, heightAmong, variables, variablesAmong}
-use Rattle.rules.proofs.Unify.Solution.{Good}
+use Rattle.rules.proofs.Unify.Tests.{or-left, or-right}
+use Rattle.rules.proofs.Unify.Solution.{isBound, Followed, Good}
 use Rattle.rules.proofs.Unify.Following.{valueOf, solution-value, onward, distance, distance-falls}
 use Rattle.unification.proofs.TermLists.{All, all-map, among-height}
 
@@ -59,6 +60,21 @@ weight bs t = height (under (solution bs) t) * 1024 + rankOf bs t
 pub value-lighter : (bs : Bindings) → Good bs → (x : Variable) (v : Term Variable) → valueOf bs x ≡ some v → weight bs v < weight bs (var x)
 unfolding weight under rankOf
 value-lighter bs g x v e = omega (arith, ap height (solution-value bs x v g e), value-falls bs g x v e)
+
+-- a term that was followed is no heavier than the others that are one with it under the bindings
+distance-none : (bs : Bindings) (x : Variable) → isBound bs x ≡ false → distance bs x ≡ 0
+unfolding distance isBound onward
+distance-none [] x e = refl
+distance-none (b ∷ bs) x e = rw (or-left (sameVariable (b .variable) x) _ e, distance-none bs x (or-right (sameVariable (b .variable) x) _ e)) refl
+
+rank-none : (bs : Bindings) (t : Term Variable) → Followed bs t → rankOf bs t ≡ 0
+unfolding Followed rankOf
+rank-none bs (var x) e = distance-none bs x e
+rank-none bs (app f ts) e = refl
+
+pub followed-lighter : (bs : Bindings) (t u : Term Variable) → Followed bs t → under (solution bs) t ≡ under (solution bs) u → weight bs t ≤ weight bs u
+unfolding weight
+followed-lighter bs t u d e = omega (arith, ap height e, rank-none bs t d)
 
 -- no variable of a term is heavier than the term
 pub variables-lighter : (bs : Bindings) → length bs < 1024 → (t : Term Variable) → All (λ y. weight bs (var y) ≤ weight bs t) (variables t)

@@ -100,6 +100,9 @@ module _ (f m : List ℕ) (r : ℕ) where
     unfolding termsOf tailOf
     next-terms = let w = words-next (omega (arith, owing-length further k o)) in rw (w .0, w .1)
 
+    pub next-copy : (r + 1) / 256 ≡ r / 256
+    next-copy = words-next (omega (arith, owing-length further k o)) .1
+
   pub next-first : (k : ℕ) → Owing variablesAt k further → first k tailOf ≡ first k (termsOf f m (r + 1))
   unfolding first
   next-first zero o = refl
@@ -208,6 +211,9 @@ module _ {f m : List ℕ} {r n : ℕ} (p : Points f m r (suc n)) where
 
   pub step-points : Ahead f m (r + 1) (argumentsOf (kindOf (wordAt f m r)) (wordAt f m r) + n)
   step-points h = next-points f m r _ h arguments-after (p .made)
+
+  pub step-copy : 0 < argumentsOf (kindOf (wordAt f m r)) (wordAt f m r) + n → (r + 1) / 256 ≡ r / 256
+  step-copy h = next-copy f m r _ h arguments-after
 
   pub step-terms : 0 < argumentsOf (kindOf (wordAt f m r)) (wordAt f m r) + n → termsOf f m (r + 1) ≡ tailOf f m r
   step-terms h = next-terms f m r _ h arguments-after

@@ -15,14 +15,13 @@ use Rattle.rules.proofs.Unify.Tests.{decide}
 use Rattle.unification.specs.Places.{trailPlaces}
 use Rattle.unification.specs.State.{startAt, countOf, termsOf, literalAtReference, bindingsOf, bindingsIn}
 use Rattle.unification.specs.Good.{wordAt, Inside, Same, Good, Grown, Ahead, Alike, Met, Undone}
-use Rattle.unification.specs.Thorough.{spareOf, Quiet, Arguments, argumentsMet, Meets, Began}
+use Rattle.unification.specs.Thorough.{spareOf, Quiet, Arguments, pairsMet, argumentsMet, Meets, Began, Remaining}
 use Rattle.unification.specs.declared.unify.Meeting.{Meeting}
 use Rattle.unification.proofs.Bound.{bindings-length}
 use Rattle.unification.proofs.KeptStarts.{in-copies, same-start, same-points, same-terms}
-use Rattle.unification.proofs.Push.{same-then, grown-then}
+use Rattle.unification.proofs.Push.{same-then, grown-none, grown-then}
 use Rattle.unification.proofs.Thorough.{quiet-blank}
 use Rattle.unification.proofs.Meet.{met-as}
-use Rattle.unification.proofs.MeetAll.{Pairs}
 use Rattle.unification.proofs.Atoms.{atoms-inside, atoms-left, atoms-right, atoms-met}
 
 -- the arguments of two literals
@@ -118,7 +117,7 @@ module _ {f m m₁ m₂ : List ℕ} (g : Grown f m m₁) {kept : ℕ} (ek : kept
     still-terms r zero p = refl
     still-terms r (suc a) p = ap (first (suc a)) (same-terms (undone-grown .kept .copies) f r (in-copies (h .copies) (p (omega arith))))
 
-    still-pairs : (r s a : ℕ) → Ahead f m r a → Ahead f m s a → Pairs f m₂ r s a ≡ Pairs f m r s a
+    still-pairs : (r s a : ℕ) → Ahead f m r a → Ahead f m s a → pairsMet f m₂ r s a ≡ pairsMet f m r s a
     still-pairs r s a p p′ = rw (same-bound, still-terms r a p, still-terms s a p′)
 
 -- and the literals are compared again
@@ -147,9 +146,40 @@ module _ {f m m₁ m₂ : List ℕ} {kept r s : ℕ} (b : Began f m m₁ kept r 
         rights = rw word (still-ahead (b .grown) (b .count) u (b .good) (arguments .rights));
       }
 
-  pub again-met : {m′ : List ℕ} {q : Meeting} → Met f m₂ m′ q (argumentsMet f m₂ r s)
-      → Met f m m′ q (unify (bindingsIn f m) (atom (literalAtReference f m r)) (atom (literalAtReference f m s)))
-  again-met met =
-      let e : argumentsMet f m r s ≡ argumentsMet f m₂ r s =
-      sym (ap (Pairs f m₂ (r + 1) (s + 1)) (ap arityOf word) ∙ still-pairs (b .grown) (b .count) u (b .good) (r + 1) (s + 1) (arityOf (wordAt f m r)) (arguments .lefts) (arguments .rights)) in
-      literal-met (b .good) (b .alike) (met-as e (record { grown = grown-then grown (met .grown); outcome = met .outcome }))
+  module _ {w a : ℕ} (ew : w ≡ wordAt f m₂ r) (ea : a ≡ arityOf w) where
+    again-count : a ≡ arityOf (wordAt f m₂ r)
+    again-count = ea ∙ ap arityOf ew
+
+    pub again-lefts : Ahead f m₂ (r + 1) a
+    again-lefts = rw again-count (again-arguments .lefts)
+
+    pub again-rights : Ahead f m₂ (s + 1) a
+    again-rights = rw again-count (again-arguments .rights)
+
+    pub again-met : {m′ : List ℕ} {q : Meeting} → Met f m₂ m′ q (pairsMet f m₂ (r + 1) (s + 1) a)
+        → Met f m m′ q (unify (bindingsIn f m) (atom (literalAtReference f m r)) (atom (literalAtReference f m s)))
+    again-met met =
+        let e : argumentsMet f m r s ≡ pairsMet f m₂ (r + 1) (s + 1) a =
+        sym (ap (pairsMet f m₂ (r + 1) (s + 1)) (again-count ∙ ap arityOf word) ∙ still-pairs (b .grown) (b .count) u (b .good) (r + 1) (s + 1) (arityOf (wordAt f m r)) (arguments .lefts) (arguments .rights)) in
+        literal-met (b .good) (b .alike) (met-as e (record { grown = grown-then grown (met .grown); outcome = met .outcome }))
+
+-- what is left of two literals
+module _ {f m : List ℕ} {r s w a : ℕ} (h : Good f m) (p : Alike f m r s) (ew : w ≡ wordAt f m r) (ea : a ≡ arityOf w) where
+  pub all-remain : Remaining f m m (countOf m) r s (r + 1) (s + 1) a
+  all-remain =
+      record {
+        began = record { good = h; alike = p; grown = grown-none h; count = refl };
+        lefts = atoms-left h p ew ea;
+        rights = atoms-right h p ew ea;
+        same = ap (pairsMet f m (r + 1) (s + 1)) (sym (ea ∙ ap arityOf ew));
+      }
+
+module _ {f m m′ : List ℕ} {kept r s left right count : ℕ} (b : Remaining f m m′ kept r s left right count) where
+  pub remaining-began : {m″ : List ℕ} → Grown f m′ m″ → Began f m m″ kept r s
+  remaining-began g =
+      record { good = b .began .good; alike = b .began .alike; grown = grown-then (b .began .grown) g; count = b .began .count }
+
+  pub remaining-met : {m″ : List ℕ} {q : Meeting} → Met f m′ m″ q (pairsMet f m′ left right count)
+      → Met f m m″ q (unify (bindingsIn f m) (atom (literalAtReference f m r)) (atom (literalAtReference f m s)))
+  remaining-met met =
+      literal-met (b .began .good) (b .began .alike) (met-as (b .same) (record { grown = grown-then (b .began .grown) (met .grown); outcome = met .outcome }))

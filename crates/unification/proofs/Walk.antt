@@ -9,7 +9,7 @@ use Rattle.table.specs.Decode.{rest}
 use Rattle.unification.specs.Places.{mostReferences}
 use Rattle.unification.specs.State.{Points, termsOf}
 use Rattle.unification.specs.Good.{wordAt, argumentsOf, Inside, Ahead, Held, Passed}
-use Rattle.unification.proofs.References.{variablesAt, clause-variables, points-inside, few, step-points, step-terms, step-rest}
+use Rattle.unification.proofs.References.{variablesAt, clause-variables, points-inside, few, step-copy, step-points, step-terms, step-rest}
 
 -- what is owed after a word
 module _ (owed w : ℕ) {k : ℕ} (e : k ≡ kindOf w) where
@@ -38,18 +38,20 @@ small h p = omega (arith, p .made, h .copies)
 pub record Walked (f m : List ℕ) (r at owed : ℕ) : Type 0 where
   pub low : r ≤ at
   pub begun : r < at + owed
+  pub copy : (n : ℕ) → Points f m r (suc n) → 0 < owed + n → at / 256 ≡ r / 256
   pub ahead : (n : ℕ) → Points f m r (suc n) → Ahead f m at (owed + n)
   pub terms : (n : ℕ) → Points f m r (suc n) → 0 < owed + n → rest owed (termsOf f m at) ≡ rest 1 (termsOf f m r)
 
 module _ {f m : List ℕ} {r : ℕ} where
   pub walk-begin : Walked f m r r 1
-  walk-begin = record { low = omega arith; begun = omega arith; ahead = λ n p h. rw (one-add n) p; terms = λ n p h. refl }
+  walk-begin = record { low = omega arith; begun = omega arith; copy = λ n p h. refl; ahead = λ n p h. rw (one-add n) p; terms = λ n p h. refl }
 
   module _ {at owed : ℕ} (g : Walked f m r at owed) where
     pub walk-done : owed ≡ 0 → Passed f m r at
     unfolding rest
     walk-done e = record {
       later = omega (arith, g .begun);
+      copy = λ n p. g .copy (suc n) p (omega arith);
       points = λ n p. let z : owed + suc n ≡ suc n = omega arith in rw z at (g .ahead (suc n) p (omega arith));
       terms = λ n p. rw e at (g .terms (suc n) p (omega arith));
     }
@@ -73,6 +75,7 @@ module _ {f m : List ℕ} {r : ℕ} where
           record {
             low = omega (arith, g .low);
             begun = omega (arith, g .low);
+            copy = λ n p l. step-copy (owing n p) (omega (arith, count-on n)) ∙ g .copy n p (omega arith);
             ahead = λ n p l. rw (count-on n) at (step-points (owing n p) (omega (arith, count-on n)));
             terms = λ n p l.
                 ap (λ (k : ℕ). rest k (termsOf f m (at + 1))) (count-rest)
@@ -96,3 +99,7 @@ module _ {f m : List ℕ} {r : ℕ} where
 
           one-more : suc (owed - 1) ≡ owed
           one-more = omega arith
+
+-- a variable's word is passed
+pub passed-variable : {f m : List ℕ} {count r : ℕ} → Held f m count → kindOf (wordAt f m r) ≡ 0 → Passed f m r (r + 1)
+passed-variable {f} {m} {count} {r} h k = walk-done (walk-on walk-begin h (λ e. omega arith) {w = wordAt f m r} {o = 0} refl (rw k refl)) refl

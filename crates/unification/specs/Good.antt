@@ -139,6 +139,7 @@ pub record FollowedTo (f m : List ℕ) (r to : ℕ) : Type 0 where
 -- a term was passed: the others after it stand from there on
 pub record Passed (f m : List ℕ) (r to : ℕ) : Type 0 where
   pub later : r < to
+  pub copy : (n : ℕ) → Points f m r (suc (suc n)) → to / 256 ≡ r / 256
   pub points : (n : ℕ) → Points f m r (suc (suc n)) → Points f m to (suc n)
   pub terms : (n : ℕ) → Points f m r (suc (suc n)) → termsOf f m to ≡ rest 1 (termsOf f m r)
 

@@ -2,11 +2,13 @@
 use mathlib.Core.Bool.{Bool, true, false}
 use mathlib.Core.List.{List}
 use mathlib.Core.Path.{_≡_}
-use Prim.Native.Nat.{ℕ, _+_, _-_, _≤_, _<_}
+use Prim.Native.Nat.{ℕ, _+_, _-_, _/_, _≤_, _<_}
 use lib.ListN.{length, getD}
 use Rattle.words.specs.Fields.{arityOf}
 use Rattle.table.specs.Syntax.{var, under}
 use Rattle.table.specs.Decode.{first}
+use Rattle.rules.specs.Substitution.{Variable}
+use Rattle.rules.proofs.Substitution.{Over}
 use Rattle.rules.specs.Machinery.Unify.{Unified, occurs, solution, unify, unifies}
 use Rattle.unification.specs.Places.{mostVariables, mostReferences, markPlaces}
 use Rattle.unification.specs.State.{countOf, boundAt, Points, termOf, termsOf, variableOf, bindingsIn}
@@ -76,9 +78,12 @@ pub record Arguments (f m : List ℕ) (r s : ℕ) : Type 0 where
   pub lefts : Ahead f m (r + 1) (arityOf (wordAt f m r))
   pub rights : Ahead f m (s + 1) (arityOf (wordAt f m r))
 
+-- so many pairs of terms from two references on, and how they are made equal
+abbrev pub pairsMet : List ℕ → List ℕ → ℕ → ℕ → ℕ → Unified
+pairsMet f m l r count = unifies (bindingsIn f m) (first count (termsOf f m l)) (first count (termsOf f m r))
+
 abbrev pub argumentsMet : List ℕ → List ℕ → ℕ → ℕ → Unified
-argumentsMet f m r s =
-    unifies (bindingsIn f m) (first (arityOf (wordAt f m r)) (termsOf f m (r + 1))) (first (arityOf (wordAt f m r)) (termsOf f m (s + 1)))
+argumentsMet f m r s = pairsMet f m (r + 1) (s + 1) (arityOf (wordAt f m r))
 
 -- two applications of one symbol
 pub record Applied (f m : List ℕ) (r s : ℕ) : Type 0 where
@@ -118,3 +123,19 @@ pub record Began (f m m′ : List ℕ) (kept r s : ℕ) : Type 0 where
   pub alike : Alike f m r s
   pub grown : Grown f m m′
   pub count : kept ≡ countOf m
+
+-- so many pairs are left of it
+pub record Remaining (f m m′ : List ℕ) (kept r s left right count : ℕ) : Type 0 where
+  pub began : Began f m m′ kept r s
+  pub lefts : Ahead f m′ left count
+  pub rights : Ahead f m′ right count
+  pub same : argumentsMet f m r s ≡ pairsMet f m′ left right count
+
+-- what a variable of a lower copy leads to has variables of lower copies alone
+abbrev pub Older : List ℕ → List ℕ → ℕ → Type 0
+Older f m c = (x : Variable) → x .copy < c → Over (λ y. y .copy < c) (solution (bindingsIn f m) x)
+
+-- a literal of a lower copy, and one of a copy that nothing leads to
+pub record Apart (f m : List ℕ) (r s : ℕ) : Type 0 where
+  pub lower : r / 256 < s / 256
+  pub older : Older f m (s / 256)

@@ -6,14 +6,14 @@ ghost use mathlib.Core.Bool.{true};
 ghost use mathlib.Core.Path.{_≡_};
 ghost use mathlib.Core.List.{List};
 ghost use Prim.Native.Nat.{ℕ, _+_, _≤_, _<_};
-ghost use lib.ListN.{set};
+ghost use lib.ListN.{length, set};
 ghost use Rattle.words.specs.Fields.{kindOf};
 ghost use Rattle.rules.specs.Tableau.{atom};
 ghost use Rattle.rules.specs.Machinery.Unify.{solution, bind, unify};
-ghost use Rattle.unification.specs.Places.{mostVariables, mostReferences, markPlaces};
+ghost use Rattle.unification.specs.Places.{mostVariables, mostReferences, markPlaces, workWords};
 ghost use Rattle.unification.specs.State.{Points, termOf, literalAtReference, boundAt, countOf, variableOf, bindingsIn};
-ghost use Rattle.unification.specs.Good.{Good, Alike, Binds, Met, Undone, wordAt, namesVariable, occursIn, occursUnder, variablesHere};
-ghost use Rattle.unification.specs.Thorough.{spareOf, linkAt, markAt, Down, Rooted, Valued, Spent, Quiet, Checking, Other, Looked, Meets, Arguments, Applied, argumentsMet, Began};
+ghost use Rattle.unification.specs.Good.{Good, Ahead, Alike, Binds, Met, Undone, wordAt, variableAt, namesVariable, occursIn, occursUnder, variablesHere};
+ghost use Rattle.unification.specs.Thorough.{spareOf, linkAt, markAt, Down, Rooted, Valued, Spent, Quiet, Checking, Other, Looked, Meets, Applied, pairsMet, Began, Remaining, Apart};
 
 pub enum Meeting {
     Made,
@@ -157,7 +157,8 @@ fn occurs_through(
     if spend(notes) {
         return true;
     }
-    if occurs(file, work, notes, variable, value) {
+    let end = terms::follow(file, work, value);
+    if occurs(file, work, notes, variable, end) {
         return true;
     }
     mark(notes, met, variable);
@@ -231,7 +232,8 @@ fn meet_applied(file: &[u32], work: &mut [u32], notes: &mut [u32], left: u32, ri
     if spend(notes) {
         return Meeting::Clash;
     }
-    let met = meet_all(file, work, notes, left, right);
+    let count = fields::arity(memory::word_at(file, work, left));
+    let met = meet_all(file, work, notes, left + 1, right + 1, count);
     let Meeting::Made = met else {
         return met;
     };
@@ -253,14 +255,21 @@ fn same_function(word: u32, other: u32) -> bool
     word == other
 }
 
-// The arguments of two applications, or of two literals, of one arity, from left to right. In place of two applications of one symbol stand their arguments.
-fn meet_all(file: &[u32], work: &mut [u32], notes: &mut [u32], left: u32, right: u32) -> Meeting
-    requires { ⌜ Good (now file) (now work) × Quiet (now file) (now work) (now notes) × Arguments (now file) (now work) left right ⌝ }
-    ensures { λ r. ⌜ Meets (now (file .entry)) (now (work .entry)) (now (work .exit)) (now (notes .entry)) (now (notes .exit)) r (argumentsMet (now (file .entry)) (now (work .entry)) left right) ⌝ }
+// So many pairs of terms from two references on, from left to right. In place of two applications of one symbol stand their arguments.
+fn meet_all(
+    file: &[u32],
+    work: &mut [u32],
+    notes: &mut [u32],
+    left: u32,
+    right: u32,
+    count: u32,
+) -> Meeting
+    requires { ⌜ Good (now file) (now work) × Quiet (now file) (now work) (now notes) × Ahead (now file) (now work) left count × Ahead (now file) (now work) right count ⌝ }
+    ensures { λ r. ⌜ Meets (now (file .entry)) (now (work .entry)) (now (work .exit)) (now (notes .entry)) (now (notes .exit)) r (pairsMet (now (file .entry)) (now (work .entry)) left right count) ⌝ }
 {
-    let mut l = left + 1;
-    let mut r = right + 1;
-    let mut more = fields::arity(memory::word_at(file, work, left));
+    let mut l = left;
+    let mut r = right;
+    let mut more = count;
     while more != 0 {
         let word = memory::word_at(file, work, l);
         if same_function(word, memory::word_at(file, work, r)) {
@@ -291,12 +300,35 @@ fn meet_thoroughly(file: &[u32], work: &mut [u32], kept: u32, leaf: u32, other: 
     undo(work, kept);
     let mut notes = [0u32; FULL];
     notes[0] = 1;
-    let met = meet_all(file, work, &mut notes, leaf, other);
+    let count = fields::arity(memory::word_at(file, work, leaf));
+    let met = meet_all(file, work, &mut notes, leaf + 1, other + 1, count);
     // This is never so. It is here because a function that calls itself is not inlined: its frame holds the notes, and the callers' frames stay small.
     if notes[0] == 0 {
         return meet_thoroughly(file, work, kept, leaf, other);
     }
     met
+}
+
+// The pairs that are left of two literals, since a moment when so many variables were bound.
+fn meet_rest(
+    file: &[u32],
+    work: &mut [u32],
+    kept: u32,
+    leaf: u32,
+    other: u32,
+    left: u32,
+    right: u32,
+    count: u32,
+) -> Meeting
+    requires { ⌜ ((m : List ℕ) × Remaining (now file) m (now work) kept leaf other left right count) ⌝ }
+    ensures { λ r. ⌜ ((m : List ℕ) → Remaining (now (file .entry)) m (now (work .entry)) kept leaf other left right count → Met (now (file .entry)) m (now (work .exit)) r (unify (bindingsIn (now (file .entry)) m) (atom (literalAtReference (now (file .entry)) m leaf)) (atom (literalAtReference (now (file .entry)) m other)))) ⌝ }
+{
+    let mut notes = [BRIEF; 1];
+    let met = meet_all(file, work, &mut notes, left, right, count);
+    if notes[0] != 0 {
+        return met;
+    }
+    meet_thoroughly(file, work, kept, leaf, other)
 }
 
 // The atoms of two literals of one predicate and arity.
@@ -305,12 +337,53 @@ pub fn meet_atoms(file: &[u32], work: &mut [u32], leaf: u32, other: u32) -> Meet
     ensures { λ r. ⌜ Met (now (file .entry)) (now (work .entry)) (now (work .exit)) r (unify (bindingsIn (now (file .entry)) (now (work .entry))) (atom (literalAtReference (now (file .entry)) (now (work .entry)) leaf)) (atom (literalAtReference (now (file .entry)) (now (work .entry)) other))) ⌝ }
 {
     let kept = work[memory::COUNT];
-    let mut notes = [BRIEF; 1];
-    let met = meet_all(file, work, &mut notes, leaf, other);
-    if notes[0] != 0 {
-        return met;
+    let count = fields::arity(memory::word_at(file, work, leaf));
+    meet_rest(file, work, kept, leaf, other, leaf + 1, other + 1, count)
+}
+
+// Whether a free variable stands at a word.
+fn is_free(work: &[u32], reference: u32, word: u32) -> bool
+    requires { ⌜ (length (now work) ≡ workWords) × (kindOf word ≡ 0 → variableAt reference word < mostVariables) ⌝ }
+    ensures { λ r. ⌜ (r ≡ true → (kindOf word ≡ 0) × (boundAt (now (work .entry)) (variableAt reference word) ≡ 0)) ⌝ }
+{
+    if fields::kind(word) != 0 {
+        return false;
     }
-    meet_thoroughly(file, work, kept, leaf, other)
+    work[memory::BOUND + fields::wide(memory::variable_at(reference, word))] == 0
+}
+
+// The atoms of a leaf and of the literal by which the newest copy was entered. As long as none but the copy's own variables are bound,
+// no older term leads to one of them, and so they are not looked for there.
+pub fn meet_entered(file: &[u32], work: &mut [u32], leaf: u32, entered: u32) -> Meeting
+    requires { ⌜ Good (now file) (now work) × Alike (now file) (now work) leaf entered × Apart (now file) (now work) leaf entered ⌝ }
+    ensures { λ r. ⌜ Met (now (file .entry)) (now (work .entry)) (now (work .exit)) r (unify (bindingsIn (now (file .entry)) (now (work .entry))) (atom (literalAtReference (now (file .entry)) (now (work .entry)) leaf)) (atom (literalAtReference (now (file .entry)) (now (work .entry)) entered))) ⌝ }
+{
+    let kept = work[memory::COUNT];
+    let mut l = leaf + 1;
+    let mut r = entered + 1;
+    let mut more = fields::arity(memory::word_at(file, work, leaf));
+    while more != 0 {
+        let word = memory::word_at(file, work, l);
+        let other = memory::word_at(file, work, r);
+        if same_function(word, other) {
+            more = terms::owed_after(more, word);
+            l += 1;
+            r += 1;
+            continue;
+        }
+        if !is_free(work, r, other) {
+            return meet_rest(file, work, kept, leaf, entered, l, r, more);
+        }
+        let value = terms::follow(file, work, l);
+        memory::push(work, memory::variable_at(r, other), value);
+        more -= 1;
+        if more == 0 {
+            return Meeting::Made;
+        }
+        l = terms::after(file, work, l);
+        r += 1;
+    }
+    Meeting::Made
 }
 
 // The variables bound since a moment are free again.

@@ -1,5 +1,6 @@
 -- The checker's way through the offered steps: where it begins, how it goes on, and where it stops, one law for each.
 use mathlib.Core.Path.{_≡_, refl, sym, _∙_}
+use mathlib.Core.Bool.{Bool}
 use mathlib.Core.List.{List, map}
 use Prim.Native.Nat.{ℕ, suc, _+_, _-_, _≤_, _<_}
 use native.Mathlib.Numerals.{add-one}
@@ -34,13 +35,13 @@ use Rattle.engine.proofs.Literals.Places.{question-placed}
 use Rattle.engine.proofs.Performed.{open-first}
 
 -- the steps before an index are taken, and what is left decides
-pub record Running (f m : List ℕ) (conditions : Conditions) (offered : List ℕ) (place : Place) (i : ℕ) : Type 0 where
+pub record Running (f m : List ℕ) (conditions : Conditions) (noted : Bool) (offered : List ℕ) (place : Place) (i : ℕ) : Type 0 where
   pub ready : Ready f m place
   pub unnumbered : (v : ℕ) → v < mostVariables → numberedAt m v ≡ 0
   pub steps : place .steps ≡ i
   pub within : i ≤ length offered
   pub play : Play
-  pub noted : NotedFor (conditions .bound) f m
+  pub indexed : NotedFor noted f m
   pub stands : PlayAt f m place play
   pub same : check (settingFor f conditions) (readSteps (profileOf (conditions .restarts)) offered) ≡ checkFrom (settingFor f conditions) play i (readSteps (profileOf (conditions .restarts)) (drop i offered))
 
@@ -72,22 +73,22 @@ module _ (f : List ℕ) (accepts : judge f .status ≡ 0) where
           questions = rw (b .copies, b .start, eq-eqb question (judge f .question) e);
         }
 
-    pub run-begin : {conditions : Conditions} {m₀ : List ℕ} → NotedFor (conditions .bound) f m₀ → NotesKept m₀ m → (offered : List ℕ) → Running f m conditions offered place 0
+    pub run-begin : {conditions : Conditions} {m₀ : List ℕ} {noted : Bool} → NotedFor noted f m₀ → NotesKept m₀ m → (offered : List ℕ) → Running f m conditions noted offered place 0
     unfolding check
-    run-begin noted kept offered =
+    run-begin indexed kept offered =
         record {
           ready = b .ready;
           unnumbered = b .unnumbered;
           steps = b .steps;
           within = omega arith;
           play = begin (tableIn f);
-          noted = λ some. indexed-same (b .ready .good .size) kept (noted some);
+          indexed = λ y. indexed-same (b .ready .good .size) kept (indexed y);
           stands = begun-stands;
           same = refl;
         }
 
 -- a step
-module _ {f m : List ℕ} {conditions : Conditions} {offered : List ℕ} {place : Place} {i : ℕ} (g : Running f m conditions offered place i) where
+module _ {f m : List ℕ} {conditions : Conditions} {noted : Bool} {offered : List ℕ} {place : Place} {i : ℕ} (g : Running f m conditions noted offered place i) where
   module _ (h : i < length offered) where
     abbrev outcome : Performed
     outcome = perform (settingFor f conditions) (g .play) (readFor conditions (getD offered i 0))
@@ -97,7 +98,7 @@ module _ {f m : List ℕ} {conditions : Conditions} {offered : List ℕ} {place 
     unfolding checkFrom
     same-step = g .same ∙ rw (from-place offered i h)
 
-    pub run-on : {m′ : List ℕ} {j : Judged} → Checked f m m′ conditions place (getD offered i 0) j → {next : Place} → j ≡ On next → Running f m′ conditions offered next (i + 1)
+    pub run-on : {m′ : List ℕ} {j : Judged} → Checked f m m′ conditions place (getD offered i 0) j → {next : Place} → j ≡ On next → Running f m′ conditions noted offered next (i + 1)
     unfolding onwards
     run-on {m′} {j} k {next} e =
         let here : Checked f m m′ conditions place (getD offered i 0) (On next) = rw e at k in
@@ -109,7 +110,7 @@ module _ {f m : List ℕ} {conditions : Conditions} {offered : List ℕ} {place 
           steps = omega (arith, moved .steps, g .steps);
           within = omega arith;
           play = goes .0;
-          noted = λ some. indexed-same (moved .ready .good .size) (moved .notes) (g .noted some);
+          indexed = λ y. indexed-same (moved .ready .good .size) (moved .notes) (g .indexed y);
           stands = goes .2;
           same = same-step ∙ rw (goes .1, add-one);
         }

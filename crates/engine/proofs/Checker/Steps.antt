@@ -8,7 +8,6 @@ use native.Mathlib.Omega.{arith}
 use borrow.Author.Tests.{eq-eqb, ne-eqb, le-ltb, eqb-true, eqb-false}
 use lib.Dec.{eqb, ltb}
 use lib.ListN.{length, take, drop, getD, getElem?}
-use lib.Seq.{length-take-le}
 use Rattle.words.specs.Fields.{bits, plain, negativeOf}
 use Rattle.words.specs.Steps.{stepOf, stepRead}
 use Rattle.words.proofs.Packed.{bits-small}
@@ -16,7 +15,7 @@ use Rattle.words.specs.declared.Step.{Step}
 use Rattle.words.specs.declared.Step.the-variants as step
 use Rattle.table.specs.Syntax.{Literal, literalUnder, Clause, Table, allClauses}
 use Rattle.table.specs.Decode.{clauseOf}
-use Rattle.table.specs.File.{bodyOf, judge, tableIn}
+use Rattle.table.specs.File.{judge, tableIn}
 use Rattle.table.proofs.AcceptedTable.{body-readable, question-start}
 use Rattle.rules.specs.Setting.{Setting, profileOf, restarting, readStep}
 use Rattle.rules.specs.Substitution.{Variable}
@@ -29,12 +28,11 @@ use Rattle.unification.specs.Good.{wordAt, Inside, LiteralStands}
 use Rattle.tableaux.specs.Leaves.{chain, literalOfLeaf, leafAt, leavesFrom}
 use Rattle.tableaux.specs.Ready.{Ready, leafOf, restOf, Reducible, Reduced, Openable, Extensible, Extended, Restarted}
 use Rattle.engine.specs.Performing.{Comes}
-use Rattle.index.specs.Noting.{Indexed}
-use Rattle.index.specs.Scanning.{EntryAt, IsEntry, otherSign}
+use Rattle.index.specs.Scanning.{otherSign}
 use Rattle.tableaux.specs.Entering.{extensionAt, literalFrom, LiteralAt, Enters}
 use Rattle.engine.specs.Ended.{settingFor}
 use Rattle.engine.specs.declared.Conditions.{Conditions}
-use Rattle.engine.specs.Checking.{Upward, lineage, aboveOf, judgedBy, NotedFor, Moved, Moves, PlayAt, Says, readFor, restartsLeaf, Checked}
+use Rattle.engine.specs.Checking.{Upward, lineage, aboveOf, judgedBy, LocatedAt, Located, Moved, Moves, PlayAt, Says, readFor, restartsLeaf, Checked}
 use Rattle.index.specs.declared.entries.Scan.{Scan}
 use Rattle.index.specs.declared.entries.Candidate.{Candidate}
 use Rattle.index.specs.declared.entries.Candidate.the-variants.{Entry, Done}
@@ -49,7 +47,6 @@ use Rattle.engine.specs.declared.check.Judged.the-variants.{On, Malforme
 use Rattle.tableaux.proofs.Chains.{chain-at, chain-none}
 use Rattle.engine.proofs.Literals.Fitting.{fits-by-word}
 use Rattle.engine.proofs.Literals.Sound.{owing-arity}
-use Rattle.engine.proofs.Literals.Entries.{entry-enters, entry-number, entry-clause, entry-literal, entry-none}
 use Rattle.engine.proofs.Performed.{open-first, Literate, literate-sign, stands-literate, stands-inside, copy-word, copy-literate, alike-other, Small, fits-at, fits-other, reduction-comes, extension-comes, restart-comes}
 use Rattle.engine.proofs.Literals.Places.{question-placed}
 use Rattle.engine.proofs.Profiles.{one-of, other-of}
@@ -338,37 +335,37 @@ module _ {f m : List ℕ} {place : Place} (ready : Ready f m place) (conditions 
         unallowed conditions word (extension-refused conditions word s)
         (λ p st. rw s (extension-over (settingFor f conditions) (p .tableau) (leaf ready n) (right ready n) (first-leaf ready n p st) clause literal (omega (arith, st .extensions))))
 
-    pub extend-noted : NotedFor (conditions .bound) f m → copiesOf m ≤ conditions .bound → Indexed f (length f - 4) m
-    extend-noted noted few = noted (omega (arith, ready .begun))
-
-    module _ (accepts : judge f .status ≡ 0) (q : Candidate) (h : IsEntry (take (length f - 4) f) clause literal q) where
+    module _ (q : Candidate) (h : Located f clause literal q) where
       pub extend-missing : q ≡ Done → Checked f m m conditions place word NotAllowed
       extend-missing e =
-          let gone = entry-none f (length f - 4) (short f) (body-readable f accepts) clause literal (rw e at h) in
+          let gone : (c : Clause) → getElem? (allClauses (tableIn f)) clause ≡ some c → getElem? (c .literals) literal ≡ none = rw e at h in
           unallowed conditions word (extension-refused conditions word s)
           (λ p st. rw s (extension-none (settingFor f conditions) (p .tableau) (leaf ready n) (right ready n) (first-leaf ready n p st) clause literal gone))
 
       module _ {scan : Scan} (g : q ≡ Entry scan) where
-        entry : EntryAt (bodyOf f) clause literal scan
+        entry : LocatedAt f clause literal scan
         entry = rw g at h
 
         scan-enters : Enters f (tableIn f) (judge f .question) scan
-        scan-enters = rw (question-start f accepts) at (entry-enters f (length f - 4) (short f) (body-readable f accepts) entry)
+        scan-enters = entry .enters
+
+        scan-number : scan .clauses - 1 ≡ clause
+        scan-number = omega (arith, entry .clauses)
 
         scan-literal : LiteralAt f (scan .start) literal (scan .at - scan .start)
-        scan-literal = entry-literal f (length f - 4) (short f) (body-readable f accepts) entry
+        scan-literal = rw (entry .literals) at (scan-enters .literal)
 
         scan-clause : getElem? (allClauses (tableIn f)) clause ≡ some (clauseOf (ownWords f (scan .start)))
-        scan-clause = entry-clause f (length f - 4) (short f) (body-readable f accepts) entry
+        scan-clause = rw scan-number at (scan-enters .clause)
 
         scan-step : readFor conditions word ≡ extensionAt scan
-        scan-step = let number = entry-number f (length f - 4) (short f) (body-readable f accepts) entry in rw (number, entry .literals) s
+        scan-step = rw (scan-number, entry .literals) s
 
         pub extend-later : scan .start ≤ scan .at
         extend-later = omega (arith, scan-enters .later)
 
         pub extend-reads : {i : ℕ} → i ≡ scan .at → i < length f
-        extend-reads e = omega (arith, entry .inside, length-take-le (length f - 4) f (short f))
+        extend-reads e = omega (arith, scan-literal .inside, extend-later)
 
         module _ (small : Small f) {i w : ℕ} (ei : i ≡ scan .at) (ew : w ≡ otherSign (wordAt f m (leafOf m place))) where
           leaf-literate : Literate f m (leafOf m place)

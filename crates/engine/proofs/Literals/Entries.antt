@@ -46,15 +46,6 @@ module _ (f : List ℕ) (n : ℕ) (fits : n ≤ length f) (r : Readable (take n 
     pub entry-enters : Enters f (tableOf (take n f)) (lastOf 0 (starts 0 0 (take n f))) s
     entry-enters = enters f n fits r (e .standing) (e .inside) (e .kind)
 
-    pub entry-number : s .clauses - 1 ≡ clause
-    entry-number = omega (arith, e .clauses)
-
-    pub entry-clause : getElem? (allClauses (tableOf (take n f))) clause ≡ some (clauseOf (ownWords f (s .start)))
-    entry-clause = rw entry-number at (entry-enters .clause)
-
-    pub entry-literal : LiteralAt f (s .start) number (s .at - s .start)
-    entry-literal = rw (e .literals) at (entry-enters .literal)
-
   pub entry-none : (clause number : ℕ) → entryFrom clause number begun (take n f) ≡ Done → (c : Clause) → getElem? (allClauses (tableOf (take n f))) clause ≡ some c
       → getElem? (c .literals) number ≡ none
   entry-none clause number d c e = no-entry clause number (take n f) r d c e

@@ -122,7 +122,7 @@ some-length [] i e = absurd (none-some e)
 some-length (y ∷ ys) zero e = omega arith
 some-length (y ∷ ys) (suc i) e = omega (arith, some-length ys i e)
 
-some-value : (xs : List ℕ) (i : ℕ) {x : ℕ} → getElem? xs i ≡ some x → getD xs i 0 ≡ x
+pub some-value : (xs : List ℕ) (i : ℕ) {x : ℕ} → getElem? xs i ≡ some x → getD xs i 0 ≡ x
 some-value [] i e = absurd (none-some e)
 some-value (y ∷ ys) zero e = cc
 some-value (y ∷ ys) (suc i) e = some-value ys i e

@@ -5,7 +5,7 @@ use mathlib.Core.List.{List, [], _∷_}
 use Prim.Native.Nat.{ℕ, zero, suc, _+_, _-_, _/_, _%_, _^_, _≤_, _<_}
 use native.Mathlib.Numerals.{add-one}
 use native.Mathlib.Omega.{arith}
-use borrow.Author.Tests.{eq-eqb, ne-eqb, eqb-true, eqb-false, ltb-true, ltb-false}
+use borrow.Author.Tests.{eq-eqb, ne-eqb, eqb-true, eqb-false, ltb-true, ltb-false, not-true}
 use lib.Dec.{eqb, ltb}
 use lib.ListN.{length, drop, getD, drop-of-length-le}
 use lib.Seq.{drop-cons}
@@ -27,16 +27,16 @@ use Rattle.tableaux.specs.declared.tableau.Place.{Place}
 use Rattle.tableaux.proofs.Chains.{chain-at, chain-past, chain-none}
 use Rattle.tableaux.proofs.Hanging.{own-small, own-inside, own-word}
 use Rattle.tableaux.proofs.Literals.{ReadsOn, hanging-fewer, clause-some, clause-hanging}
-use Rattle.engine.specs.Searching.{without, roomAt, Treats, Allows, Again, stepBy, Attempted}
-use Rattle.engine.specs.Nowhere.{wordsUp, among, stuckAt, deadEndBy, deadEnd, clashing, Opens, Opening, Vain}
+use Rattle.engine.specs.Searching.{without, roomAt, Treats, Against, Allows, Again, stepBy, Attempted}
+use Rattle.engine.specs.Nowhere.{wordsUp, among, stuckAt, deadEndBy, deadEnd, clashing, Opens, Opening, Parted, Vain}
 use Rattle.engine.specs.declared.search.Ending.the-variants.{Nothing}
 use Rattle.engine.specs.declared.search.Move.{Move}
-use Rattle.engine.specs.declared.search.Move.the-variants.{Enter}
+use Rattle.engine.specs.declared.search.Move.the-variants.{Reduce, Enter}
 use Rattle.index.specs.declared.entries.Scan.{Scan}
 use Rattle.engine.specs.declared.search.Task.{Task}
 use Rattle.engine.proofs.Performed.{open-first, stands-inside}
 use Rattle.engine.proofs.Searching.Again.{term-stays, again-none, bound-again}
-use Rattle.engine.proofs.Nowhere.Tries.{next-inside, vain-clash, vain-end}
+use Rattle.engine.proofs.Nowhere.Tries.{next-inside, vain-clash, vain-parted, vain-end}
 use Rattle.engine.proofs.Searching.Rows.{treats-again, Rowing, rowing-on}
 
 -- a chain from an item on: the item, and the chain from where it leads
@@ -283,6 +283,11 @@ module _ {f m : List ℕ} {literal : ℕ} (good : Good f m) (stands : LiteralSta
 
 pub ruleset symbol-laws = (symbol-inside, symbol-none, symbol-points, symbol-small, symbol-there, symbol-opens)
 
+-- the first arguments of two literals
+pub parted : {f m : List ℕ} {l r s w k j : ℕ} → Opening f m l s → k ≡ kindOf s → k ≡ 1 → Opening f m r w → j ≡ kindOf w → j ≡ 1 → not (eqb w s) ≡ true → Parted f m l r
+parted {s = s} {w = w} ol ek k or ej j e =
+    record { symbol = s; against = w; left = ol (sym ek ∙ k); right = or (sym ej ∙ j); differ = eqb-false w s (not-true _ e) }
+
 -- two words
 pub clash-variable : (s w : ℕ) {k : ℕ} → k ≡ kindOf s → (k ≡ 1 → ⊥) → false ≡ clashing s w
 unfolding clashing
@@ -327,6 +332,9 @@ module _ {f m : List ℕ} {task : Task} {place : Place} (treats : Treats f m tas
 
   pub symbol-asked : {literal : ℕ} → literal ≡ leafOf m place → Good f m × LiteralStands f m literal
   symbol-asked e = (treats .ready .good, rw e (treats .ready .noted .stands (place .head - 1) (omega (arith, treats .ready .head))))
+
+  pub seen-parted : {leaf literal height : ℕ} → leaf ≡ leafOf m place → Against f m place literal height → Parted f m leaf literal → Vain f m task place (Reduce literal height)
+  seen-parted el against apart = vain-parted treats some-open against (rw el at apart)
 
 module _ {f m₀ m : List ℕ} {task : Task} {place : Place} (treats : Treats f m₀ task place) (some-open : 0 < place .head) where
   pub rowing-vain : {tries left : ℕ} {all rest : List Step} (candidate : Move) → Rowing f m₀ m task place tries left all (stepBy candidate ∷ rest) → (left ≡ 0 → ⊥)

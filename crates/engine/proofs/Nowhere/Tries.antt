@@ -9,16 +9,17 @@ use borrow.Author.Tests.{le-ltb, eqb-true, eqb-false}
 use lib.Dec.{eqb}
 use lib.ListN.{length, getD, getElem?, set, length-set}
 use lib.Seq.{getD-set-same, getD-set-other}
-use Rattle.words.specs.Fields.{kindOf, symbolOf, arityOf, variablesOf, functionWord}
+use Rattle.words.specs.Fields.{kindOf, symbolOf, arityOf, variablesOf, functionWord, functionShaped}
 use Rattle.words.proofs.Packed.{function-word}
 use Rattle.words.specs.declared.Step.{Step}
-use Rattle.table.specs.Syntax.{Terms, Literal, Clause, app, _then_}
+use Rattle.words.specs.declared.Step.the-variants.{Reduction}
+use Rattle.table.specs.Syntax.{Term, Terms, Literal, Clause, app, _then_, arity}
 use Rattle.table.specs.Decode.{first, rest, clauseOf}
 use Rattle.rules.specs.Setting.{Setting}
 use Rattle.rules.specs.Substitution.{Variable}
 use Rattle.rules.specs.Tableau.{Leaf, Tableau, atom, fits, copyOf, hang}
 use Rattle.rules.specs.Order.{reductions, candidatesAt, candidates, allClosed}
-use Rattle.rules.specs.Machinery.Unify.{Unified, made, clash, circle, after, follow, unify, unifies}
+use Rattle.rules.specs.Machinery.Unify.{Bindings, Unified, made, clash, circle, after, follow, unify, unifies}
 use Rattle.rules.specs.Machinery.Play.{Play, Performed, goes-on, not-possible, clashes, circular, boundBy, perform, afterwards, plays}
 use Rattle.rules.specs.Machinery.Run.{no-way, one, row}
 use Rattle.rules.proofs.System.Steps.{one-fails, one-no-way, search-open, row-end}
@@ -27,6 +28,7 @@ use Rattle.rules.proofs.Steps.{extends, done, afterEntry}
 use Rattle.rules.proofs.Unify.Tests.{decide}
 use Rattle.rules.proofs.Unify.Laws.{unify-applied, unify-clash, unify-arity, unifies-then}
 use Rattle.rules.proofs.Unify.Solution.{follow-app}
+use Rattle.rules.proofs.Unify.Solution as bindings
 use Rattle.unification.specs.Places.{mostCopies, copiesPlace, startPlaces}
 use Rattle.unification.specs.State.{startAt, copiesOf, literalAt, parentAt, nextAt, ownWords, literalAtReference, termOf, termsOf, bindingsIn, Points}
 use Rattle.unification.specs.Good.{wordAt, LiteralStands}
@@ -41,11 +43,11 @@ use Rattle.tableaux.specs.declared.tableau.Place.{Place}
 use Rattle.tableaux.proofs.Chains.{chain-at, chain-past}
 use Rattle.tableaux.proofs.Hung.{reads-stands}
 use Rattle.tableaux.proofs.Literals.{ReadsOn, clause-read, clause-hanging, copy-entered, copy-others}
-use Rattle.engine.specs.Searching.{tableAt, settingAt, questionAt, leafTreated, Treats, Allows}
-use Rattle.engine.specs.Nowhere.{wordsUp, among, stuckAt, deadEndBy, deadEnd, Opens, Vain}
-use Rattle.engine.specs.declared.search.Move.the-variants.{Enter}
+use Rattle.engine.specs.Searching.{tableAt, settingAt, questionAt, leafTreated, Treats, Against, Allows}
+use Rattle.engine.specs.Nowhere.{wordsUp, among, stuckAt, deadEndBy, deadEnd, Opens, Parted, Vain}
+use Rattle.engine.specs.declared.search.Move.the-variants.{Reduce, Enter}
 use Rattle.engine.specs.declared.search.Task.{Task}
-use Rattle.engine.proofs.Performed.{chain-first, open-first, performs, Small, Literate, stands-literate, copy-word, copy-literate, alike-other, fits-at, fits-other}
+use Rattle.engine.proofs.Performed.{chain-first, open-first, performs, reducedTo, reduction-performs, Small, Literate, stands-literate, copy-word, copy-literate, alike-other, fits-at, fits-other}
 
 -- a step that fails, or comes to an open leaf without candidates
 abbrev Stuck : Setting → Performed → Type 0
@@ -111,6 +113,44 @@ not-among : (b : Bool) → not b ≡ true → b ≡ false
 not-among true e = let z : _≡_ {A = ℕ} 0 1 = cc in absurd (omega arith)
 not-among false e = refl
 
+-- terms that begin with functions or constants that differ
+heads-clash : (bs : Bindings) (s t : Term Variable) {v w : ℕ} {ss ts : Terms Variable}
+    → follow bs s ≡ app (symbolOf v) ss → arity ss ≡ arityOf v → functionShaped v ≡ true → v < 2 ^ 32
+    → follow bs t ≡ app (symbolOf w) ts → arity ts ≡ arityOf w → functionShaped w ≡ true → w < 2 ^ 32
+    → (w ≡ v → ⊥) → unify bs s t ≡ clash
+heads-clash bs s t {v} {w} es av sv lv et aw sw lw other =
+    decide
+    (eqb (symbolOf v) (symbolOf w))
+    (λ e. unify-arity bs _ _ _ _ _ _ es et (λ a. other (same (eqb-true _ _ e) (sym av ∙ a ∙ aw))))
+    (λ e. unify-clash bs _ _ _ _ _ _ es et (eqb-false _ _ e))
+  where
+    same : symbolOf v ≡ symbolOf w → arityOf v ≡ arityOf w → w ≡ v
+    same es ea =
+        let a : v ≡ functionWord (symbolOf v) (arityOf v) = function-word v sv lv in
+        let b : w ≡ functionWord (symbolOf w) (arityOf w) = function-word w sw lw in
+        b ∙ sym (a ∙ ap₂ functionWord es ea)
+
+-- literals whose first arguments clash
+firsts-clash : {f m m′ : List ℕ} {l r : ℕ} → LiteralStands f m l → LiteralStands f m′ r → Alike (wordAt f m l) (wordAt f m′ r) → bindings.Good (bindingsIn f m) → 0 < arityOf (wordAt f m l)
+    → unify (bindingsIn f m) (termOf f m (l + 1)) (termOf f m′ (r + 1)) ≡ clash
+    → unify (bindingsIn f m) (atom (literalAtReference f m l)) (atom (literalAtReference f m′ r)) ≡ clash
+unfolding after
+firsts-clash {f} {m} {m′} {l} {r} sl sr alike sound filled first-clash =
+    let also : 0 < arityOf (wordAt f m′ r) = omega (arith, filled, alike .arity) in
+    let al : arityOf (wordAt f m l) ≡ suc (arityOf (wordAt f m l) - 1) = omega (arith, filled) in
+    let ar : arityOf (wordAt f m′ r) ≡ suc (arityOf (wordAt f m′ r) - 1) = omega (arith, also) in
+    let pl : Points f m (l + 1) (suc (arityOf (wordAt f m l) - 1)) = points-fewer (omega (arith, filled)) (literal-ahead sl filled) in
+    let pr : Points f m′ (r + 1) (suc (arityOf (wordAt f m′ r) - 1)) = points-fewer (omega (arith, also)) (literal-ahead sr also) in
+    let ls = ap (λ (k : ℕ). first k (termsOf f m (l + 1))) al ∙ first-terms pl (arityOf (wordAt f m l) - 1) in
+    let rs = ap (λ (k : ℕ). first k (termsOf f m′ (r + 1))) ar ∙ first-terms pr (arityOf (wordAt f m′ r) - 1) in
+    ap₂ (unify (bindingsIn f m)) (literal-atom sl) (literal-atom sr)
+    ∙ unify-applied (bindingsIn f m) _ _ _ _ _ _ (follow-app (bindingsIn f m) _ _) (follow-app (bindingsIn f m) _ _) (alike .predicate)
+    (literal-arity sl ∙ alike .arity ∙ sym (literal-arity sr))
+    ∙ ap₂ (unifies (bindingsIn f m)) ls rs
+    ∙ unifies-then (bindingsIn f m) _ _ _ _ sound
+    ∙ ap (λ (u : Unified). after u (λ bs. unifies bs (first (arityOf (wordAt f m l) - 1) (rest 1 (termsOf f m (l + 1)))) (first (arityOf (wordAt f m′ r) - 1) (rest 1 (termsOf f m′ (r + 1))))))
+    first-clash
+
 -- an open leaf that no reduction closes, first among others
 pub record Blocked (leaves : List Leaf) : Type 0 where
   pub leaf : Leaf
@@ -137,6 +177,29 @@ module _ {f m : List ℕ} {task : Task} {place : Place} (treats : Treats f m tas
       none-fits f m (literalOfLeaf f m c) (otherSign (wordAt f m (literalAt m c))) c (parentAt m c) 1
       (λ d i. fits-at (treats .asked .small) (noted-literate c l) (noted-literate d (omega arith)))
       (ap (among _) past ∙ not-among _ e)
+
+  -- an ancestor's literal whose first argument clashes with the leaf's
+  module _ {literal height : ℕ} (against : Against f m place literal height) (parted : Parted f m (leafOf m place) literal) where
+    parted-clash : unify (bindingsIn f m) (atom (literalAtReference f m (leafOf m place))) (atom (literalAtReference f m literal)) ≡ clash
+    parted-clash =
+        let l = parted .left in
+        let r = parted .right in
+        let literate = noted-literate (place .head - 1) leaf-noted in
+        firsts-clash (treats .ready .noted .stands (place .head - 1) leaf-noted) (against .stands)
+        (alike-other (wordAt f m (leafOf m place)) (wordAt f m literal) (literate .shaped) (treats .asked .small _) (against .word))
+        (treats .ready .good .sound) (l .some)
+        (heads-clash (bindingsIn f m) _ _ (l .followed) (l .count) (l .shaped) (l .small) (r .followed) (r .count) (r .shaped) (r .small) (parted .differ))
+
+    pub vain-parted : Vain f m task place (Reduce literal height)
+    unfolding boundBy
+    vain-parted =
+        record {
+          says = λ p stands depth budget.
+              one-stuck (settingAt f task) p (Reduction height) depth budget clashes
+              (reduction-performs (settingAt f task) literal (treats .ready) some-open p stands height (against .there)
+              (fits-other (treats .asked .small) (noted-literate (place .head - 1) leaf-noted) (stands-literate f m literal (against .stands)) (against .word))
+              ∙ ap (boundBy (reducedTo f m place literal (p .tableau))) parted-clash) tt;
+        }
 
   module _ {scan : Scan} (allows : Allows f m task place (Enter scan)) where
     enters : Enters f (tableAt f task) (questionAt f task) scan
@@ -292,36 +355,14 @@ module _ {f m : List ℕ} {task : Task} {place : Place} (treats : Treats f m tas
         applied : kindOf (wordAt f copied (new + 1)) ≡ 0 → ⊥
         applied e = omega (arith, ap kindOf next-word, kind, e)
 
-        same-words : symbolOf symbol ≡ symbolOf (wordAt f copied (new + 1)) → arityOf symbol ≡ arityOf (wordAt f copied (new + 1)) → getD f (scan .at + 1) 0 ≡ symbol
-        same-words es ea =
-            let a : symbol ≡ functionWord (symbolOf symbol) (arityOf symbol) = function-word symbol (opens .shaped) (opens .small) in
-            let b : wordAt f copied (new + 1) ≡ functionWord (symbolOf (wordAt f copied (new + 1))) (arityOf (wordAt f copied (new + 1))) =
-            function-word _ (function-shape new-points applied) (treats .asked .small _) in
-            sym next-word ∙ b ∙ sym (a ∙ ap₂ functionWord es ea)
-
         first-clash : unify (bindingsIn f m) (termOf f m (leaf + 1)) (termOf f copied (new + 1)) ≡ clash
         first-clash =
             let right : follow (bindingsIn f m) (termOf f copied (new + 1)) ≡ app (symbolOf (wordAt f copied (new + 1))) (first (arityOf (wordAt f copied (new + 1))) (termsOf f copied (new + 1 + 1))) =
             ap (follow (bindingsIn f m)) (function-term new-points applied) ∙ follow-app (bindingsIn f m) _ _ in
-            decide
-            (eqb (symbolOf symbol) (symbolOf (wordAt f copied (new + 1))))
-            (λ e. unify-arity (bindingsIn f m) _ _ _ _ _ _ (opens .followed) right (λ a. other (same-words (eqb-true _ _ e) (sym (opens .count) ∙ a ∙ function-arity new-points applied))))
-            (λ e. unify-clash (bindingsIn f m) _ _ _ _ _ _ (opens .followed) right (eqb-false _ _ e))
+            heads-clash (bindingsIn f m) _ _ (opens .followed) (opens .count) (opens .shaped) (opens .small) right (function-arity new-points applied) (function-shape new-points applied) (treats .asked .small _) (λ e. other (sym next-word ∙ e))
 
         atoms-clash : unify (bindingsIn f m) (atom (literalAtReference f m leaf)) (atom (copyAt offset)) ≡ clash
-        unfolding after
-        atoms-clash =
-            let al : arityOf (wordAt f m leaf) ≡ suc (arityOf (wordAt f m leaf) - 1) = omega (arith, opens .some) in
-            let an : arityOf (wordAt f copied new) ≡ suc (arityOf (wordAt f copied new) - 1) = omega (arith, opens .some, alike .arity) in
-            let ls = ap (λ (k : ℕ). first k (termsOf f m (leaf + 1))) al ∙ first-terms leaf-points (arityOf (wordAt f m leaf) - 1) in
-            let ns = ap (λ (k : ℕ). first k (termsOf f copied (new + 1))) an ∙ first-terms new-points (arityOf (wordAt f copied new) - 1) in
-            ap₂ (unify (bindingsIn f m)) (literal-atom leaf-stands) (literal-atom (new-stands .1))
-            ∙ unify-applied (bindingsIn f m) _ _ _ _ _ _ (follow-app (bindingsIn f m) _ _) (follow-app (bindingsIn f m) _ _) (alike .predicate)
-            (literal-arity leaf-stands ∙ alike .arity ∙ sym (literal-arity (new-stands .1)))
-            ∙ ap₂ (unifies (bindingsIn f m)) ls ns
-            ∙ unifies-then (bindingsIn f m) _ _ _ _ (treats .ready .good .sound)
-            ∙ ap (λ (u : Unified). after u (λ bs. unifies bs (first (arityOf (wordAt f m leaf) - 1) (rest 1 (termsOf f m (leaf + 1)))) (first (arityOf (wordAt f copied new) - 1) (rest 1 (termsOf f copied (new + 1))))))
-            first-clash
+        atoms-clash = firsts-clash leaf-stands (new-stands .1) alike (treats .ready .good .sound) (opens .some) first-clash
 
         pub vain-clash : Vain f m task place (Enter scan)
         unfolding boundBy

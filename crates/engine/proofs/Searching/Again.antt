@@ -1,9 +1,11 @@
 -- What stays while more is done, and what is there again when it is taken back.
 use mathlib.Core.Path.{_≡_, refl, sym, ap, _∙_}
+use mathlib.Core.Bool.{Bool, true, false, cond}
 use mathlib.Core.List.{List}
 use Prim.Native.Nat.{ℕ, zero, suc, _+_, _-_, _/_, _≤_, _<_}
 use native.Mathlib.Decide.{decLt}
 use native.Mathlib.Omega.{arith}
+use lib.Dec.{ltb}
 use lib.ListN.{length, getD, set, length-set}
 use lib.Seq.{getD-set-same, getD-set-other}
 use Rattle.rules.specs.Machinery.Play.{Play}
@@ -13,9 +15,10 @@ use Rattle.rules.proofs.Unify.Solution as bindings
 use Rattle.unification.specs.Places.{mostVariables, mostLeaves, valuePlaces, valueEnd, literalPlaces, parentPlaces, nextPlaces, stepPlaces, numberPlaces, countPlace, trailPlaces, workWords, mostCopies, copiesPlace, startPlaces}
 use Rattle.unification.specs.State.{startAt, copiesOf, countOf, trailAt, boundAt, wordsAt, termOf, Points, bindingsOf, bindingsIn}
 use Rattle.unification.specs.Good.{LiteralStands, Entry, Held, Good, Undone}
+use Rattle.index.specs.Places.{scannedPlace}
 use Rattle.tableaux.specs.Leaves.{leavesFrom, questionsAmong}
 use Rattle.tableaux.specs.Ready.{Noted, Ready, Stands, Later}
-use Rattle.engine.specs.Searching.{Again}
+use Rattle.engine.specs.Searching.{Again, costing}
 use Rattle.tableaux.specs.declared.tableau.Place.{Place}
 use Rattle.unification.proofs.Bound.{entry-small, free-same, unbound, bindings-length}
 use Rattle.tableaux.proofs.Leaves.{SameLeaves, leaves-same, questions-same}
@@ -250,3 +253,49 @@ module _ {f m m₂ m₃ : List ℕ} {place : Place} (ready : Ready f m place) (l
         count = n;
         copies = copied;
       }
+
+-- what the scans have cost is counted, and nothing else changes
+module _ {f m : List ℕ} {place : Place} (ready : Ready f m place) where
+  noted-cost : (n : ℕ) → Again f m (set m scannedPlace n) place
+  noted-cost n =
+      let held : Good f m = ready .good in
+      let k : copiesOf m ≤ mostCopies = held .copies in
+      let c : countOf (set m scannedPlace n) ≡ countOf m = apart countPlace (λ e. omega arith) in
+      record {
+        good =
+            rw c
+            (held-again held (set m scannedPlace n)
+            (λ i l. apart (trailPlaces + i) (λ e. omega arith))
+            (λ v s l. apart (valuePlaces + v) (λ e. omega arith))
+            (λ i l. apart (0 + i) (λ e. omega arith))
+            (length-set m scannedPlace n ∙ held .size)
+            (apart copiesPlace (λ e. omega arith))
+            (λ v s z. apart (valuePlaces + v) (λ e. omega arith) ∙ z));
+        later =
+            record {
+              more = omega (arith, c);
+              trail = λ i l. apart (trailPlaces + i) (λ e. omega arith);
+              bound = λ v s l. apart (valuePlaces + v) (λ e. omega arith);
+              copies = omega (arith, apart copiesPlace (λ e. omega arith));
+              starts = λ i l. apart (0 + i) (λ e. omega arith);
+              literals = λ i l. apart (literalPlaces + i) (λ e. omega arith);
+              parents = λ i l. apart (parentPlaces + i) (λ e. omega arith);
+              nexts = λ i l. apart (nextPlaces + i) (λ e. omega arith);
+              steps = λ i l. apart (stepPlaces + i) (λ e. omega arith);
+              marks = λ v l. apart (numberPlaces + v) (λ e. omega arith);
+              notes = λ i l h. apart i (λ e. omega arith);
+            };
+        count = c;
+        copies = apart copiesPlace (λ e. omega arith);
+      }
+    where
+      apart : (i : ℕ) → (i ≡ scannedPlace → ⊥) → getD (set m scannedPlace n) i 0 ≡ getD m i 0
+      apart i d = getD-set-other m scannedPlace i n 0 d
+
+  pub counted-again : (limit passed : ℕ) {m₁ : List ℕ} → m₁ ≡ costing m limit passed → Again f m m₁ place
+  unfolding costing
+  counted-again limit passed e = rw e (go (ltb (getD m scannedPlace 0) limit))
+    where
+      go : (b : Bool) → Again f m (cond b (set m scannedPlace (getD m scannedPlace 0 + passed + 16)) m) place
+      go true = noted-cost (getD m scannedPlace 0 + passed + 16)
+      go false = again-none (ready .good)

@@ -88,7 +88,7 @@ module _ {f m m₁ : List ℕ} {task : Task} {place : Place} (treats : Treats f 
         record {
           asked = treats .asked;
           ready = onward .ready;
-          linked = λ some. linked-same (takes .good .size) (takes .later .notes) (treats .linked some);
+          linked = λ noted. linked-same (takes .good .size) (takes .later .notes) (treats .linked noted);
         }
 
     pub attempt-falls : roomAt f m₁ task (taken .place) < roomAt f m task place
@@ -156,7 +156,7 @@ module _ {f m m₁ : List ℕ} {task : Task} {place : Place} (treats : Treats f 
               → Tells e f m₂ task (taken .place) r q (below depth q) → Tells e f m₂ task place r p (one (plays (settingAt f task)) depth left p (stepBy candidate))
           go Found s l p q e depth h = found-here l p q e depth h
           go Nothing s l p q e depth h = absurd (s refl)
-          go Out s l p q e depth h = one-ran-out (plays (settingAt f task)) depth left p (stepBy candidate) q (goes-some _ q e) h
+          go Out s l p q e depth h = (λ z. one-ran-out (plays (settingAt f task)) depth left p (stepBy candidate) q (goes-some _ q e) (h .0 z), h .1)
 
       module _ (nothing : r .ending ≡ Nothing) where
         again : Again f m₁ m₂ (taken .place)

@@ -1,10 +1,13 @@
 -- The search of an accepted file: what it begins with, and what it comes to.
-use mathlib.Core.Bool.{Bool, true, false}
-use mathlib.Core.Path.{_≡_, sym, ap, _∙_}
+use mathlib.Core.Bool.{Bool, true, false, and-eq-true-iff}
+use mathlib.Core.Logic.{_⊎_, inl, inr}
+use mathlib.Core.Path.{_≡_, refl, sym, ap, _∙_}
+use denote.Enum.Declared.{tagOf, declared}
 use mathlib.Core.List.{List, [], _∷_}
-use Prim.Native.Nat.{ℕ, _+_, _-_, _^_, _≤_, _<_}
+use Prim.Native.Nat.{ℕ, _+_, _-_, _/_, _^_, _≤_, _<_}
 use native.Mathlib.Omega.{arith}
-use borrow.Author.Tests.{eq-eqb}
+use borrow.Author.Tests.{eq-eqb, ne-eqb, eqb-true, lt-ltb, le-ltb, ltb-false}
+use lib.Dec.{eqb, ltb}
 use lib.ListN.{length, take, getD}
 use Rattle.table.specs.Body.{lastOf, starts}
 use Rattle.table.specs.File.{judge, tableIn}
@@ -15,7 +18,9 @@ use Rattle.rules.specs.Machinery.Play.{begin, check, plays, reported, searchFor
 use Rattle.rules.specs.Machinery.Run.{search}
 use Rattle.rules.specs.Tableau.{start, hang, copyOf}
 use Rattle.rules.specs.Setting.{profileOf, longestProof}
-use Rattle.rules.proofs.Demands.{passed-closed, proof-is-short}
+use Rattle.rules.specs.Verdict.{SearchVerdict, runs-out}
+use Rattle.rules.proofs.Unify.Tests.{decide}
+use Rattle.rules.proofs.Demands.{passed-closed, proof-is-short, larger-budget}
 use Rattle.rules.proofs.Search.{any-depth-says, steps-left-few}
 use Rattle.unification.specs.Places.{mostLeaves, stepPlaces}
 use Rattle.engine.specs.Ended.{settingFor}
@@ -23,16 +28,17 @@ use Rattle.engine.specs.Ended as ended
 use Rattle.unification.specs.State.{startAt, copiesOf, ClauseAt, bindingsOf}
 use Rattle.tableaux.specs.Leaves.{questionsAmong}
 use Rattle.tableaux.specs.Ready.{openLeaves, Stands, NotesKept, Begun}
-use Rattle.index.specs.Noting.{Few, Linked}
+use Rattle.index.specs.Noting.{Few}
 use Rattle.index.proofs.Linking.{linked-same}
 use Rattle.engine.proofs.Literals.Entries.{few-literals}
-use Rattle.engine.specs.Searching.{questionAt, Asked, roomAt, Treats, Leaves, Tells, Treated, Ends}
+use Rattle.engine.specs.Searching.{questionAt, Asked, roomAt, Treats, Leaves, Tells, Treated, LinkedFor, Ends, RanBy, Ran, earlyTries, settledBy}
 use Rattle.engine.specs.declared.Conditions.{Conditions}
 use Rattle.engine.specs.declared.search.Ending.{Ending}
 use Rattle.engine.specs.declared.search.Ending.the-variants.{Found, Nothing, Out}
 use Rattle.engine.specs.declared.search.Searched.{Searched}
 use Rattle.engine.specs.declared.search.Task.{Task}
 use Rattle.tableaux.specs.declared.tableau.Place.{Place}
+use Rattle.engine.proofs.search.Ending.{enum as ending}
 use Rattle.engine.proofs.Literals.Places.{question-placed}
 
 longest : (restarts : Bool) → longestProof (profileOf restarts) ≤ mostLeaves
@@ -81,9 +87,9 @@ module _ (f : List ℕ) (z : judge f .status ≡ 0) {question : ℕ} (eq : quest
           questions = sym first-question;
         }
 
-  module _ (small : (i : ℕ) → getD f i 0 < 2 ^ 32) (conditions : Conditions) (low : conditions .bound ≤ 32) where
+  module _ (small : (i : ℕ) → getD f i 0 < 2 ^ 32) (conditions : Conditions) (low : conditions .bound ≤ 32) (noted : Bool) where
     abbrev task : Task
-    task = record { body = length f - 4; question = question; bound = conditions .bound; restarts = conditions .restarts }
+    task = record { body = length f - 4; question = question; bound = conditions .bound; restarts = conditions .restarts; noted = noted }
 
     pub file-asked : Asked f task
     file-asked =
@@ -97,9 +103,9 @@ module _ (f : List ℕ) (z : judge f .status ≡ 0) {question : ℕ} (eq : quest
         }
 
     module _ {m : List ℕ} {place : Place} (begun : Begun f m question place) where
-      pub find-treats : {m₀ : List ℕ} → (0 < conditions .bound → Linked f (length f - 4) m₀ 0) → NotesKept m₀ m → Treats f m task place
-      find-treats linked kept =
-          record { asked = file-asked; ready = begun .ready; linked = λ some. linked-same (begun .ready .good .size) kept (linked some) }
+      pub run-treats : {m₀ : List ℕ} → LinkedFor noted f m₀ → NotesKept m₀ m → Treats f m task place
+      run-treats linked kept =
+          record { asked = file-asked; ready = begun .ready; linked = λ y. linked-same (begun .ready .good .size) kept (linked y) }
 
       enough : roomAt f m task place ≤ mostLeaves
       enough = omega (arith, begun .ready .taken, begun .ready .room, begun .copies, begun .steps)
@@ -112,12 +118,12 @@ module _ (f : List ℕ) (z : judge f .status ≡ 0) {question : ℕ} (eq : quest
           any-depth-says (settingFor f conditions) 232 budget (omega (arith, steps-left-few (settingFor f conditions) (accepted-within f z) low, longest (conditions .restarts)))
 
       module _ {m′ : List ℕ} {budget : ℕ} {r : Searched} (treated : Treated f m m′ task place budget r) where
-        pub find-ends : Ends (r .ending) f m′ question conditions budget r
+        pub run-ends : Ran f m′ question conditions noted budget r
         unfolding reported check
-        find-ends = go (r .ending) (treated .leaves) (treated .tells (begin (tableIn f)) stands mostLeaves enough)
+        run-ends = record { within = treated .within; ends = go (r .ending) (treated .leaves) (treated .tells (begin (tableIn f)) stands mostLeaves enough) }
           where
             go : (e : Ending) → Leaves e f m m′ place r → Tells e f m′ task place r (begin (tableIn f)) (search (plays (settingFor f conditions)) 232 budget (begin (tableIn f)))
-                → Ends e f m′ question conditions budget r
+                → RanBy e f m′ question conditions noted budget r
             go Found l h =
                 let steps : r .steps ≡ length (h .path) = omega (arith, h .count, begun .steps) in
                 let from : stepPlaces + place .steps ≡ stepPlaces = omega (arith, begun .steps) in
@@ -139,4 +145,76 @@ module _ (f : List ℕ) (z : judge f .status ≡ 0) {question : ℕ} (eq : quest
                       };
                 }
             go Nothing l h = (deep budget ∙ ap (reported budget) h, treated .within)
-            go Out l h = deep budget ∙ ap (reported budget) h
+            go Out l h = (λ z. deep budget ∙ ap (reported budget) (h .0 z), h .1)
+
+-- a search by notes ends only as the search does
+module _ {f m : List ℕ} {question : ℕ} {conditions : Conditions} {budget : ℕ} {r : Searched} where
+  pub noted-ends : {noted : Bool} → noted ≡ true → Ran f m question conditions noted budget r → Ends (r .ending) f m question conditions budget r
+  noted-ends {noted} y ran = go (r .ending) (ran .ends)
+    where
+      go : (e : Ending) → RanBy e f m question conditions noted budget r → Ends e f m question conditions budget r
+      go Found h = h
+      go Nothing h = h
+      go Out h = h .0 (h .1 y)
+
+-- the tries of a search by scans
+module _ (body budget : ℕ) where
+  pub early-all : budget < body / 8 → budget ≡ earlyTries body budget
+  early-all h = rw (lt-ltb budget (body / 8) h)
+
+  pub early-most : body / 8 ≤ budget → body / 8 ≡ earlyTries body budget
+  early-most h = rw (le-ltb budget (body / 8) h)
+
+  pub early-within : {most : ℕ} → most ≡ earlyTries body budget → most ≤ budget
+  early-within e = rw e (decide (ltb budget (body / 8)) (λ b. rw b (omega arith)) (λ b. rw b (ltb-false budget (body / 8) b)))
+
+-- whether a search by scans is settled, by how it ended
+module _ (left most budget : ℕ) where
+  pub settled-other : (e : Ending) → (tagOf (declared ending) e ≡ 0) ⊎ (tagOf (declared ending) e ≡ 1) → true ≡ settledBy e left most budget
+  unfolding settledBy
+  settled-other Found h = refl
+  settled-other Nothing h = refl
+  settled-other Out (inl h) = absurd (omega (arith, h))
+  settled-other Out (inr h) = absurd (omega (arith, h))
+
+  pub settled-left : {e : Ending} → e ≡ Out → (left ≡ 0 → ⊥) → false ≡ settledBy e left most budget
+  unfolding settledBy
+  settled-left z n = rw (z, ne-eqb left 0 n)
+
+  pub settled-out : {e : Ending} → e ≡ Out → left ≡ 0 → eqb most budget ≡ settledBy e left most budget
+  unfolding settledBy
+  settled-out z n = rw (z, eq-eqb left 0 n)
+
+-- a search with fewer tries that is settled is the search with the whole budget
+module _ {f m : List ℕ} {question : ℕ} {conditions : Conditions} {most budget : ℕ} {first : Searched} (ran : Ran f m question conditions false most first)
+    (within : most ≤ budget) (so : settledBy (first .ending) (first .left) most budget ≡ true) where
+  abbrev whole : Searched
+  whole = record { ending = first .ending; left = first .left + (budget - most); steps = first .steps }
+
+  made : budget - (first .left + (budget - most)) ≡ most - first .left
+  made = omega (arith, ran .within)
+
+  same : {v : SearchVerdict} → searchFor (settingFor f conditions) most ≡ v → (v ≡ runs-out most → ⊥) → searchFor (settingFor f conditions) budget ≡ v
+  same e n = larger-budget (settingFor f conditions) most budget (λ z. n (sym e ∙ z)) within ∙ e
+
+  pub settled-ends : Ends (first .ending) f m question conditions budget whole
+  unfolding settledBy
+  settled-ends = go (first .ending) so (ran .ends)
+    where
+      go : (e : Ending) → settledBy e (first .left) most budget ≡ true → RanBy e f m question conditions false most first → Ends e f m question conditions budget whole
+      go Found s h =
+          record {
+            proof = h .proof;
+            play = h .play;
+            says = rw made (same (h .says) (λ z. let y : _≡_ {A = ℕ} 0 1 = cc in omega arith));
+            within = omega (arith, ran .within);
+            count = h .count;
+            few = h .few;
+            noted = h .noted;
+            passes = h .passes;
+            ended = h .ended;
+          }
+      go Nothing s h = (rw made (same (h .0) (λ z. let y : _≡_ {A = ℕ} 0 1 = cc in omega arith)), omega (arith, ran .within))
+      go Out s h =
+          let both = and-eq-true-iff (eqb (first .left) 0) (eqb most budget) .0 s in
+          rw (← eqb-true most budget (both .1)) (h .0 (eqb-true (first .left) 0 (both .0)))

@@ -1,5 +1,6 @@
 -- Candidates tried in turn: how far a loop over them has come, and how it ends, against what the rules say of the row.
 use mathlib.Core.Path.{_≡_, refl, sym, ap, _∙_}
+use mathlib.Core.Bool.{false}
 use mathlib.Core.List.{List, [], _∷_, _++_}
 use Prim.Native.Nat.{ℕ, zero, suc, _+_, _-_, _≤_}
 use native.Mathlib.Omega.{arith}
@@ -57,7 +58,7 @@ pub tells-by : (f m′ : List ℕ) (task : Task) (place : Place) (r : Searched) 
     → other ≡ result → Tells e f m′ task place r p result → Tells e f m′ task place r p other
 tells-by f m′ task place r p Found same h = finds-by same h
 tells-by f m′ task place r p Nothing same h = same ∙ h
-tells-by f m′ task place r p Out same h = same ∙ h
+tells-by f m′ task place r p Out same h = (λ z. same ∙ h .0 z, h .1)
 
 -- the room at a place is again what it was
 pub room-again : {f m m′ : List ℕ} {place : Place} (task : Task) → Ready f m place → Again f m m′ place → roomAt f m′ task place ≡ roomAt f m task place
@@ -70,7 +71,7 @@ treats-again treats again =
     record {
       asked = treats .asked;
       ready = ready-again (treats .ready) again;
-      linked = λ some. linked-same (again .good .size) (again .later .notes) (treats .linked some);
+      linked = λ noted. linked-same (again .good .size) (again .later .notes) (treats .linked noted);
     }
 
 -- so far the candidates up to the rest have failed
@@ -110,7 +111,18 @@ module _ {f m₀ : List ℕ} {task : Task} {place : Place} (treats : Treats f m�
         (record {
           leaves = tt;
           within = rowing .within;
-          tells = λ p stands depth enough. rowing .same p stands depth enough ∙ row-no-budget (plays (settingAt f task)) depth left p step rest z;
+          tells = λ p stands depth enough. (λ y. rowing .same p stands depth enough ∙ row-no-budget (plays (settingAt f task)) depth left p step rest z, λ y. z);
+        })
+
+    -- a search by scans is given up
+    pub rowing-given-up : {rest : List Step} → Rowing f m₀ m task place tries left all rest → task .noted ≡ false → (left ≡ 0 → ⊥)
+        → {r : Searched} → r ≡ without Out left → Rowed f m₀ m task place tries r all
+    rowing-given-up rowing scans some e =
+        rw e
+        (record {
+          leaves = tt;
+          within = rowing .within;
+          tells = λ p stands depth enough. (λ z. absurd (some z), λ noted. let y : _≡_ {A = ℕ} 0 1 = cc in absurd (omega arith));
         })
 
     module _ (candidate : Move) {rest : List Step} (rowing : Rowing f m₀ m task place tries left all (stepBy candidate ∷ rest)) (some : left ≡ 0 → ⊥)
@@ -142,7 +154,7 @@ module _ {f m₀ : List ℕ} {task : Task} {place : Place} (treats : Treats f m�
           told Found p depth s h same =
               finds-by (same ∙ row-found (plays (settingAt f task)) depth left p (stepBy candidate) rest (h .path) (r .left) (omega arith) (h .says) ∙ sym (h .says)) h
           told Nothing p depth s h same = absurd (s refl)
-          told Out p depth s h same = same ∙ row-runs-out (plays (settingAt f task)) depth left p (stepBy candidate) rest (omega arith) h
+          told Out p depth s h same = (λ z. same ∙ row-runs-out (plays (settingAt f task)) depth left p (stepBy candidate) rest (omega arith) (h .0 z), h .1)
 
       module _ (none : r .ending ≡ Nothing) where
         pub rowing-on : Rowing f m₀ m′ task place tries (r .left) all rest

@@ -2,11 +2,11 @@
 use mathlib.Core.Path.{_≡_, refl, sym, ap, ap₂, _∙_}
 use mathlib.Core.Bool.{Bool, true, false, cond, _&&_}
 use mathlib.Core.List.{List, [], _∷_, _++_, map}
-use Prim.Native.Nat.{ℕ, suc, _-_, _/_, _%_, _^_, _≤_, _<_}
+use Prim.Native.Nat.{ℕ, suc, _+_, _-_, _/_, _%_, _^_, _≤_, _<_}
 use native.Mathlib.Omega.{arith}
 use borrow.Author.Tests.{lt-ltb, le-ltb}
 use lib.Dec.{ltb}
-use lib.ListN.{length, take, getD}
+use lib.ListN.{length, take, drop, getD}
 use Rattle.words.specs.Fields.{kindOf, negativeOf, variablesOf}
 use Rattle.words.specs.declared.Step.{Step}
 use Rattle.words.specs.declared.Step.the-variants.{Restart}
@@ -26,10 +26,12 @@ use Rattle.unification.specs.Good.{wordAt, Inside}
 use Rattle.index.specs.Places.{mostNoted}
 use Rattle.tableaux.specs.Leaves.{leafAt}
 use Rattle.tableaux.specs.Ready.{openLeaves, Stands, leafOf}
-use Rattle.index.specs.Scanning.{otherSign}
+use Rattle.index.specs.Scanning.{begun, pastWord, entriesFrom, Standing, NextEntry, IsNext, otherSign}
 use Rattle.tableaux.specs.Entering.{extensionAt}
-use Rattle.engine.specs.Searching.{without, tableAt, settingAt, questionAt, roomAt, Treats, Wanted, leafTreated, extendsAt, restartsAt, Allows, Again, Leaves, Tells, Treated, Attempted, Rowed, reductionsAt, extensionsAt, furtherAt, extensionsAhead}
+use Rattle.engine.specs.Searching.{without, tableAt, settingAt, questionAt, roomAt, Treats, Wanted, leafTreated, extendsAt, restartsAt, Allows, Again, Leaves, Tells, Treated, Attempted, Rowed, reductionsAt, extensionsAt, furtherAt, extensionsFrom, extensionsAhead, reachedBy, costing}
 use Rattle.index.specs.declared.entries.Scan.{Scan}
+use Rattle.index.specs.declared.entries.Candidate.{Candidate}
+use Rattle.index.specs.declared.entries.Candidate.the-variants.{Entry, Done}
 use Rattle.engine.specs.declared.search.Ending.{Ending}
 use Rattle.engine.specs.declared.search.Ending.the-variants.{Found, Nothing, Out}
 use Rattle.engine.specs.declared.search.Move.the-variants.{Enter, Renew}
@@ -38,12 +40,13 @@ use Rattle.engine.specs.declared.search.Task.{Task}
 use Rattle.tableaux.specs.declared.tableau.Place.{Place}
 use Rattle.tableaux.proofs.Chains.{chain-none}
 use Rattle.index.specs.Noting.{keysIn, scansIn, linkAt, firstFrom, Unpacks, unpacked, Linked}
+use Rattle.index.proofs.Scans.{past-at, standing-begin, standing-past, body-length, body-word}
 use Rattle.index.proofs.Linking.{linked-same}
 use Rattle.index.proofs.Reached.{Leads, leads-first, all-ahead, lead-low, lead-unpacks, leads-next, lead-less, lead-ahead, lead-stands, lead-inside, lead-word, ahead-none}
 use Rattle.engine.proofs.Literals.Entries.{extensions-begin, scan-enters}
 use Rattle.engine.proofs.Literals.Fitting.{other-kind}
 use Rattle.engine.proofs.Performed.{open-first, Literate, literate-sign, stands-literate, stands-inside}
-use Rattle.engine.proofs.Searching.Again.{stands-again, again-then}
+use Rattle.engine.proofs.Searching.Again.{ready-again, stands-again, again-then, counted-again}
 use Rattle.engine.proofs.Searching.Attempts.{nothing-told}
 use Rattle.engine.proofs.Searching.Climbs.{leaf-stays, leaf-word-stays}
 use Rattle.engine.proofs.Profiles.{one-of, other-of}
@@ -153,7 +156,7 @@ module _ {f m : List ℕ} {task : Task} {place : Place} (treats : Treats f m tas
               → Tells e f m₁ task place r p (search (plays (settingAt f task)) (suc depth) left p)
           go Found p depth s h others same = tells-by f m₁ task place r p Found (same ∙ ap (λ (a : Result Step). after a others) (h .says) ∙ sym (h .says)) h
           go Nothing p depth s h others same = absurd (s refl)
-          go Out p depth s h others same = same ∙ ap (λ (a : Result Step). after a others) h
+          go Out p depth s h others same = (λ z. same ∙ ap (λ (a : Result Step). after a others) (h .0 z), h .1)
 
       module _ (nothing : r .ending ≡ Nothing) where
         back : Again f m m₁ place
@@ -230,32 +233,94 @@ module _ {f m : List ℕ} {task : Task} {place : Place} (treats : Treats f m tas
           pub further-restarted : {tries : ℕ} → (tries ≡ 0 → ⊥) → {m₁ : List ℕ} {r : Searched} → Attempted f m m₁ task place Renew (tries - 1) r → Rowed f m m₁ task place tries r (furtherAt f m task place)
           further-restarted {tries} n attempted = rowing-last treats Renew (restart-row tries) n attempted
 
-    -- the extensions, by the notes of the body's literals
+    -- the extensions, as a scan of the body meets their literals
     body-small : Words (take (task .body) f)
     body-small = each-take (λ (w : ℕ). w < 2 ^ 32) (task .body) f (words-each f (treats .asked .small))
 
-    module _ (unused : copiesOf m ≤ task .bound) (may : extendsAt f m task place ≡ true) where
-      pub linked : Linked f (task .body) m 0
-      linked = treats .linked (omega (arith, treats .ready .begun))
+    module _ (unused : copiesOf m ≤ task .bound) (may : extendsAt f m task place ≡ true) {wanted : ℕ} (wants : Wanted f m place wanted) where
+      kind : kindOf wanted ≡ 2
+      kind = rw wants (other-kind (wordAt f m (leafOf m place)) (leaf-literate .shaped) (treats .asked .small _))
 
-      module _ {wanted : ℕ} (wants : Wanted f m place wanted) where
-        kind : kindOf wanted ≡ 2
-        kind = rw wants (other-kind (wordAt f m (leafOf m place)) (leaf-literate .shaped) (treats .asked .small _))
+      all-entries : extensionsAt f m task place ≡ map extensionAt (entriesFrom wanted begun (take (task .body) f))
+      unfolding literalAtReference
+      all-entries =
+          let l = leaf-literate in
+          sym (rw (wants, ← l .word)
+          (extensions-begin f (task .body) (treats .asked .fits) (treats .asked .readable) body-small {v = variablesOf (getD f (startAt m (leafOf m place / 256)) 0)} (wordsAt f m (leafOf m place)) (rw (l .word) (l .shaped)) (rw (l .word) (treats .asked .small _)) (rw (l .word) (l .owing)) (fresh (leafOf m place / 256)) (copiesOf m)))
+
+      allowed : {m₁ : List ℕ} → Again f m m₁ place → {entry : Scan} → Standing (take (task .body) f) entry → entry .at < task .body → getD f (entry .at) 0 ≡ wanted → Allows f m₁ task place (Enter entry)
+      allowed again stands inside word = (
+        scan-enters f (task .body) (treats .asked .fits) (treats .asked .readable) stands inside (ap (λ (w : ℕ). kindOf w) word ∙ kind),
+        word ∙ wants ∙ ap otherSign (sym (leaf-word-stays (treats .ready) some-open (again .later))),
+        omega (arith, again .copies),
+        ap (λ (l : Leaf). settingAt f task .profile .extends (l .literal .negative)) (leaf-stays (treats .ready) some-open (again .later)) ∙ may,
+      )
+
+      -- by a scan
+      pub scan-begin : {scan : Scan} → scan ≡ begun → Standing (take (task .body) f) scan
+      scan-begin e = rw e (standing-begin (take (task .body) f))
+
+      pub scan-row : {scan : Scan} → scan ≡ begun → (tries : ℕ) → Rowing f m m task place tries tries (extensionsAt f m task place) (extensionsFrom f task wanted scan)
+      scan-row e tries = rw e (rowing-by treats all-entries (rowing-begin treats tries (extensionsAt f m task place)))
+
+      module _ {m₁ : List ℕ} {tries left : ℕ} {all : List Step} (scan : Scan) (standing : Standing (take (task .body) f) scan) (rowing : Rowing f m m₁ task place tries left all (extensionsFrom f task wanted scan)) where
+        pub scan-asks : (length m₁ ≡ workWords) × (task .body ≤ length f) × (task .body ≤ 16000) × (kindOf wanted ≡ 2) × Standing (take (task .body) f) scan
+        scan-asks = (rowing .again .good .size, treats .asked .fits, treats .asked .short, kind, standing)
+
+        module _ (found : Candidate) {m₂ : List ℕ} (so : IsNext (take (task .body) f) wanted scan found × (m₂ ≡ costing m₁ (task .body) (reachedBy found (task .body) - scan .at))) where
+          pub scan-again : Again f m m₂ place
+          scan-again = again-then (rowing .again) (counted-again (ready-again (treats .ready) (rowing .again)) _ _ (so .1))
+
+          scan-kept : Rowing f m m₂ task place tries left all (extensionsFrom f task wanted scan)
+          scan-kept = record { again = scan-again; within = rowing .within; same = rowing .same }
+
+          pub scan-end : found ≡ Done → {r : Searched} → r ≡ without Nothing left → Rowed f m m₂ task place tries r all
+          scan-end is er =
+              let none : entriesFrom wanted scan (drop (scan .at) (take (task .body) f)) ≡ [] = rw is at (so .0) in
+              rowing-end treats (rowing-by treats (ap (map extensionAt) none) scan-kept) er
+
+          module _ {entry : Scan} (is : found ≡ Entry entry) where
+            next : NextEntry (take (task .body) f) wanted scan entry
+            next = rw is at (so .0)
+
+            inside : entry .at < task .body
+            inside = omega (arith, next .inside, body-length f (task .body) (treats .asked .fits))
+
+            pub scan-allows : Allows f m₂ task place (Enter entry)
+            scan-allows = allowed scan-again (next .standing) inside (sym (body-word f (task .body) (treats .asked .fits) inside refl) ∙ next .here)
+
+            pub scan-small : (entry .at < 4294967295) × (entry .clauses ≤ entry .at) × (entry .literals ≤ entry .at)
+            scan-small = (omega (arith, inside, treats .asked .short), next .standing .clauses, next .standing .literals)
+
+            module _ {past : Scan} (ep : past ≡ pastWord entry wanted) where
+              past-later : past .at ≡ entry .at + 1
+              past-later = ap (λ (s : Scan). s .at) ep ∙ past-at entry wanted
+
+              pub scan-stands : Standing (take (task .body) f) past
+              scan-stands = rw ep (rw (next .here) at (standing-past (take (task .body) f) (next .standing) (next .inside)))
+
+              pub scan-less : task .body - past .at < task .body - scan .at
+              scan-less = omega (arith, past-later, inside, next .later)
+
+              pub scan-next : Rowing f m m₂ task place tries left all (extensionAt entry ∷ extensionsFrom f task wanted past)
+              scan-next =
+                  rowing-by treats
+                  (ap (map extensionAt) (next .first)
+                  ∙ ap (λ (k : ℕ). extensionAt entry ∷ map extensionAt (entriesFrom wanted (pastWord entry wanted) (drop k (take (task .body) f)))) (sym (past-at entry wanted))
+                  ∙ ap (λ (s : Scan). extensionAt entry ∷ extensionsFrom f task wanted s) (sym ep))
+                  scan-kept
+
+      -- by the notes of the literals
+      module _ (noted : task .noted ≡ true) where
+        linked : Linked f (task .body) m 0
+        linked = treats .linked noted
 
         module _ {link : ℕ} (el : link ≡ firstFrom wanted 0 (keysIn f (task .body))) where
           pub link-begin : Leads f (task .body) wanted link
           link-begin = leads-first linked wanted el
 
-          same : extensionsAt f m task place ≡ extensionsAhead f task wanted link
-          unfolding literalAtReference
-          same =
-              let l = leaf-literate in
-              sym (rw (wants, ← l .word)
-              (extensions-begin f (task .body) (treats .asked .fits) (treats .asked .readable) body-small {v = variablesOf (getD f (startAt m (leafOf m place / 256)) 0)} (wordsAt f m (leafOf m place)) (rw (l .word) (l .shaped)) (rw (l .word) (treats .asked .small _)) (rw (l .word) (l .owing)) (fresh (leafOf m place / 256)) (copiesOf m)))
-              ∙ ap (map extensionAt) (all-ahead linked wanted el kind)
-
           pub link-row : (tries : ℕ) → Rowing f m m task place tries tries (extensionsAt f m task place) (extensionsAhead f task wanted link)
-          link-row tries = rowing-by treats same (rowing-begin treats tries (extensionsAt f m task place))
+          link-row tries = rowing-by treats (all-entries ∙ ap (map extensionAt) (all-ahead linked wanted el kind)) (rowing-begin treats tries (extensionsAt f m task place))
 
         module _ {m₁ : List ℕ} {tries left : ℕ} {all : List Step} (link : ℕ) (leads : Leads f (task .body) wanted link) (rowing : Rowing f m m₁ task place tries left all (extensionsAhead f task wanted link)) where
           pub link-end : link ≡ 0 → {r : Searched} → r ≡ without Nothing left → Rowed f m m₁ task place tries r all
@@ -282,13 +347,5 @@ module _ {f m : List ℕ} {task : Task} {place : Place} (treats : Treats f m tas
                 pub link-next : Rowing f m m₁ task place tries left all (extensionAt entry ∷ extensionsAhead f task wanted next)
                 link-next = rowing-by treats (ap (map extensionAt) (lead-ahead linked-still wanted leads n en es)) rowing
 
-                word : getD f (entry .at) 0 ≡ wanted
-                word = lead-word linked-still wanted leads n en es
-
                 pub link-allows : Allows f m₁ task place (Enter entry)
-                link-allows = (
-                  scan-enters f (task .body) (treats .asked .fits) (treats .asked .readable) (lead-stands linked-still wanted leads n en es) (lead-inside linked-still wanted leads n en es) (ap (λ (w : ℕ). kindOf w) word ∙ kind),
-                  word ∙ wants ∙ ap otherSign (sym (leaf-word-stays (treats .ready) some-open (rowing .again .later))),
-                  omega (arith, rowing .again .copies),
-                  ap (λ (l : Leaf). settingAt f task .profile .extends (l .literal .negative)) (leaf-stays (treats .ready) some-open (rowing .again .later)) ∙ may,
-                )
+                link-allows = allowed (rowing .again) (lead-stands linked-still wanted leads n en es) (lead-inside linked-still wanted leads n en es) (lead-word linked-still wanted leads n en es)

@@ -13,10 +13,10 @@ use Rattle.engine.proofs.check.run.Tie as tie
 ruleset all = (needs, question-clause, run-begin, run-on, run-refuses, run-open, run-done)
 
 abbrev Inv-loop : tie.InvT-loop
-Inv-loop file work₀ question conditions offered place₀ i₀ work place i = Running file work conditions offered place i
+Inv-loop file work₀ question conditions offered noted place₀ i₀ work place i = Running file work conditions noted offered place i
 
 abbrev μ-loop : tie.MeasureT-loop
-μ-loop file work₀ question conditions offered place₀ i₀ work place i = length offered - i
+μ-loop file work₀ question conditions offered noted place₀ i₀ work place i = length offered - i
 
 prepare-requires : tie.Need-prepare-requires Inv-loop μ-loop
 prepare-requires c κs = search all
@@ -34,7 +34,7 @@ shared-slice-read-step-taken : tie.Need-shared-slice-read-step-taken Inv-loop μ
 shared-slice-read-step-taken c = search all
 
 step-taken-requires : tie.Need-step-taken-requires Inv-loop μ-loop
-step-taken-requires c κs = (c .before .before .before .loop .inv .ready, c .before .before .before .before .before .before .before .before .before .before .before .before .before .before .before .pre .1, c .before .before .before .before .before .before .before .before .before .before .before .before .before .before .before .pre .3, c .before .before .before .loop .inv .noted, c .before .before .before .before .before .before .before .before .before .before .before .before .before .before .before .pre .2)
+step-taken-requires c κs = (c .before .before .before .loop .inv .ready, c .before .before .before .before .before .before .before .before .before .before .before .before .before .before .before .pre .1, c .before .before .before .before .before .before .before .before .before .before .before .before .before .before .before .pre .3, c .before .before .before .loop .inv .indexed, c .before .before .before .before .before .before .before .before .before .before .before .before .before .before .before .pre .2)
 
 enum-known-judged : tie.Need-enum-known-judged Inv-loop μ-loop
 enum-known-judged c = search all

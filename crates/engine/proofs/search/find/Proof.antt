@@ -1,8 +1,11 @@
--- The search of an accepted file: its literals noted, the start, and the leaves treated.
+-- The search of an accepted file: by scans, where the body is long and the search short; else by the notes of its literals.
 use borrow.Author.Needs.{needs}
-use mathlib.Core.Path.{_∙_}
+use borrow.Author.Tests.{not-false}
+use mathlib.Core.Path.{_≡_, sym, _∙_}
 use native.Mathlib.Omega.{arith}
-use Rattle.engine.proofs.Searching.Finding.{file-least, file-most, file-literals, question-clause, find-treats, find-ends}
+use Prim.Native.Nat.{ℕ, _-_}
+use lib.ListN.{length}
+use Rattle.engine.proofs.Searching.Finding.{file-least, file-most, early-within, settled-ends}
 use Rattle.engine.proofs.search.find.Statement.{statement}
 use Rattle.engine.proofs.search.find.Tie as tie
 
@@ -10,10 +13,18 @@ pub find-spec : {M : Type 1} → statement M
 find-spec =
     tie.close
     (tie.spec
-    (λ c. omega (arith, file-least (c .before .before .args .file .now) (c .before .before .pre .1) (c .before .before .pre .2)))
-    (λ c. omega (arith, file-most (c .before .before .args .file .now) (c .before .before .pre .1) (c .before .before .pre .2)))
-    (λ c κs. (c .before .before .before .pre .0, omega arith, omega (arith, file-most (c .before .before .before .args .file .now) (c .before .before .before .pre .1) (c .before .before .before .pre .2)), file-literals (c .before .before .before .args .file .now) (c .before .before .before .pre .1) (c .before .before .before .pre .2)))
-    (λ c κs. (c .before .before .before .prepare .kept .1 .0 ∙ c .before .before .before .before .before .before .before .pre .0, question-clause (c .before .before .before .before .before .before .before .args .file .now) (c .before .before .before .before .before .before .before .pre .1) (c .before .before .before .before .before .before .before .pre .2)))
-    (λ c κs. find-treats (c .before .before .before .before .before .before .before .before .before .before .before .args .file .now) (c .before .before .before .before .before .before .before .before .before .before .before .pre .1) (c .before .before .before .before .before .before .before .before .before .before .before .pre .2) (λ i. c .before .before .before .before .before .before .before .before .before .before .shared-slice-known .given i .fits) (c .before .before .before .before .before .before .before .before .before .before .before .args .conditions) (c .before .before .before .before .before .before .before .before .before .before .before .pre .3) (c .before .before .before .begin .ensures .0) (c .before .before .before .before .before .before .before .prepare .ensures) (c .before .before .before .begin .ensures .1))
+    (λ c. let s = c .before .before in omega (arith, file-least (s .args .file .now) (s .pre .1) (s .pre .2)))
+    (λ c. let s = c .before .before in omega (arith, file-most (s .args .file .now) (s .pre .1) (s .pre .2)))
+    (λ c κs. let s = c .before .before .before .before in (s .pre .0, s .pre .1, s .pre .2, s .pre .3))
     (λ c. search needs)
-    (λ c. find-ends (c .before .before .before .before .before .before .before .before .before .before .before .before .before .before .args .file .now) (c .before .before .before .before .before .before .before .before .before .before .before .before .before .before .pre .1) (c .before .before .before .before .before .before .before .before .before .before .before .before .before .before .pre .2) (λ i. c .before .before .before .before .before .before .before .before .before .before .before .before .before .shared-slice-known .given i .fits) (c .before .before .before .before .before .before .before .before .before .before .before .before .before .before .args .conditions) (c .before .before .before .before .before .before .before .before .before .before .before .before .before .before .pre .3) (c .before .before .before .before .before .before .begin .ensures .0) (c .before .before .treat .ensures)))
+    (λ c. c .before .before .run-noted .ensures)
+    (λ c κs. search needs)
+    (λ c κs. let s = c .before .before .before .before .before in (s .pre .0, s .pre .1, s .pre .2, s .pre .3, λ y. let x : _≡_ {A = ℕ} 0 1 = cc in absurd (omega arith)))
+    (λ c κs. search needs)
+    (λ c κs. let s = c .before .before .before .before .before .before .before .before .before .before .before in (c .before .before .before .before .before .run .kept .1 .0 ∙ s .pre .0, s .pre .1, s .pre .2, s .pre .3))
+    (λ c. c .before .before .run-noted2 .kept .1 .0 ∙ c .before .before .before .before .before .before .before .before .run .kept .1 .0)
+    (λ c. c .before .before .run-noted2 .ensures)
+    (λ c. let s = c .before .before .before .before .before .before .before .before .before .before in omega (arith, early-within (length (s .args .file .now) - 4) (s .args .budget) (c .before .before .before .before .before .before .early .ensures)))
+    (λ c. let s = c .before .before .before .before .before .before .before .before .before .before .before in omega (arith, early-within (length (s .args .file .now) - 4) (s .args .budget) (c .before .before .before .before .before .before .before .early .ensures), c .before .before .before .before .before .run .ensures .within))
+    (λ c. c .before .before .before .before .before .run .kept .1 .0)
+    (λ c. let s = c .before .before .before .before .before .before .before .before .before .before .before in settled-ends (c .before .before .before .before .before .run .ensures) (early-within (length (s .args .file .now) - 4) (s .args .budget) (c .before .before .before .before .before .before .before .early .ensures)) (sym (c .before .before .settled .ensures) ∙ not-false _ (c .before .if2 .left))))

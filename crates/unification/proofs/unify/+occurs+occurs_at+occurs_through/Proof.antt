@@ -9,7 +9,7 @@ use Rattle.words.specs.Fields.{kindOf}
 use Rattle.unification.specs.Places.{mostReferences}
 use Rattle.unification.specs.State.{termOf, bindingsIn}
 use Rattle.unification.proofs.Ranks.{weight}
-use Rattle.unification.proofs.Occurs.{weightHere, Seeking, seek-begin, seek-found, seek-on, seek-done, look-points, look-inside, look-few, look-small, look-falls, Here, at-function, at-variable, at-same, at-free, at-valued, at-falls, at-on, looked-still, looked-as, through-marked, through-tired, through-checking, through-found, through-absent}
+use Rattle.unification.proofs.Occurs.{weightHere, Seeking, seek-begin, seek-found, seek-on, seek-done, look-points, look-inside, look-few, look-small, look-falls, Here, at-function, at-variable, at-same, at-free, at-valued, at-falls, at-on, looked-still, looked-as, end-valued, end-as, end-falls, through-marked, through-tired, through-checking, through-found, through-absent}
 use Rattle.unification.proofs.unify.occurs.Reads as occurs
 use Rattle.unification.proofs.unify.occurs.Kinds as occurs-kinds
 use Rattle.unification.proofs.unify.+occurs+occurs_at+occurs_through.Lts-occurs as occurs-lts
@@ -21,6 +21,7 @@ use Rattle.unification.proofs.unify.occurs_through.Kinds as through-kin
 use Rattle.unification.proofs.unify.+occurs+occurs_at+occurs_through.Lts-occurs_through as through-lts
 use Rattle.unification.proofs.memory.variable_at.Reads as variable-at
 use Rattle.unification.proofs.memory.word_at.Reads as word-at
+use Rattle.unification.proofs.terms.follow.Reads as follow
 use Rattle.unification.proofs.terms.owed_after.Reads as owed-after
 use Rattle.unification.proofs.unify.mark.Reads as mark
 use Rattle.unification.proofs.unify.marked.Reads as marked
@@ -70,7 +71,7 @@ abbrev told-here : ℕ → here-lts.Claims
 told-here t = (kind.Asked, kind.Learnt, variable-at.Asked, variable-at.Learnt, wide.Asked, wide.Learnt, through-below t, through.Post)
 
 abbrev told-through : ℕ → through-lts.Claims
-told-through t = (marked.Asked, marked.Learnt, spend.Asked, spend.Learnt, occurs-below t, occurs.Post, mark.Asked, mark.Learnt)
+told-through t = (marked.Asked, marked.Learnt, spend.Asked, spend.Learnt, follow.Asked, follow.Learnt, occurs-below t, occurs.Post, mark.Asked, mark.Learnt)
 
 met : (t : ℕ) (c : here-lts.After-wide (told-here t) (here-at t) here.Post)
     → (let a = c .before .before .before .before .before .before .before .before .args in
@@ -141,9 +142,11 @@ pub +occurs+occurs-at+occurs-through-spec : {M : Type 1} → statement M
     (λ c κs. c .before .before .before .before .before .before .before .pre .1 .1 .notes .awake)
     (λ c. search needs)
     (λ c. let s = c .before .before .before .before .before .before .before .before .before .before .before in through-tired (s .pre .1 .1) (s .pre .1 .2) (c .before .before .before .spend .ensures) (c .if2 .taken))
-    (λ c κs. let s = c .before .before .before .before .before .before .before .before .before .before .before .before in (omega (arith, s .pre .0), (s .pre .1 .0, through-checking (s .pre .1 .1) (s .pre .1 .2) (c .before .before .before .before .spend .ensures) (c .before .if2 .left), s .pre .1 .2 .points)))
-    (λ c. c .before .before .before .occurs .kept .1 .1 .0 ∙ c .before .before .before .before .before .before .before .before .spend .kept .0)
-    (λ c. let s = c .before .before .before .before .before .before .before .before .before .before .before .before .before .before .before .before in through-found (s .pre .1 .1) (s .pre .1 .2) (c .before .before .before .before .before .before .before .before .spend .ensures) (c .before .before .before .occurs .ensures) (c .if3 .taken))
+    (λ c κs. let s = c .before .before .before .before .before .before .before .before .before .before .before in (s .pre .1 .0, s .pre .1 .2 .points))
+    (λ c κs. let s = c .before .before .before .before .before .before .before .before .before .before .before .before .before in
+    (omega (arith, end-falls (s .pre .1 .0) (c .before .follow .ensures), s .pre .0), (s .pre .1 .0, through-checking (s .pre .1 .1) (s .pre .1 .2) (c .before .before .before .before .before .spend .ensures) (c .before .before .if2 .left), c .before .follow .ensures .points)))
+    (λ c. c .before .before .before .occurs .kept .1 .1 .0 ∙ c .before .before .before .before .before .before .before .before .before .spend .kept .0)
+    (λ c. let s = c .before .before .before .before .before .before .before .before .before .before .before .before .before .before .before .before .before in looked-as (end-as (s .pre .1 .0) (c .before .before .before .before .before .follow .ensures) (s .args .variable)) (through-found (s .pre .1 .1) (end-valued (s .pre .1 .0) (c .before .before .before .before .before .follow .ensures) (s .pre .1 .2)) (c .before .before .before .before .before .before .before .before .before .spend .ensures) (c .before .before .before .occurs .ensures) (c .if3 .taken)))
     (λ c κs. search needs)
-    (λ c. c .before .before .mark .kept .0 ∙ c .before .before .before .before .before .before .before .occurs .kept .1 .1 .0 ∙ c .before .before .before .before .before .before .before .before .before .before .before .before .spend .kept .0)
-    (λ c. let s = c .before .before .before .before .before .before .before .before .before .before .before .before .before .before .before .before .before .before .before .before in through-absent (s .pre .1 .1) (s .pre .1 .2) (c .before .before .before .before .before .before .before .before .before .before .before .before .spend .ensures) (c .before .before .before .before .before .before .before .occurs .ensures) (c .before .before .before .before .if3 .left) (c .before .before .mark .ensures)))
+    (λ c. c .before .before .mark .kept .0 ∙ c .before .before .before .before .before .before .before .occurs .kept .1 .1 .0 ∙ c .before .before .before .before .before .before .before .before .before .before .before .before .before .spend .kept .0)
+    (λ c. let s = c .before .before .before .before .before .before .before .before .before .before .before .before .before .before .before .before .before .before .before .before .before in looked-as (end-as (s .pre .1 .0) (c .before .before .before .before .before .before .before .before .before .follow .ensures) (s .args .variable)) (through-absent (s .pre .1 .1) (end-valued (s .pre .1 .0) (c .before .before .before .before .before .before .before .before .before .follow .ensures) (s .pre .1 .2)) (c .before .before .before .before .before .before .before .before .before .before .before .before .before .spend .ensures) (c .before .before .before .before .before .before .before .occurs .ensures) (c .before .before .before .before .if3 .left) (c .before .before .mark .ensures))))

@@ -1,8 +1,8 @@
--- The arguments of two literals are made equal, pair by pair; where that takes too long, it is done thoroughly.
+-- All arguments of two literals are left to be made equal.
 use borrow.Author.Needs.{needs}
-use mathlib.Core.Path.{refl}
 use native.Mathlib.Omega.{arith}
-use Rattle.unification.proofs.ThoroughAtoms.{literal-arguments, literal-met, brief-quiet, brief-met}
+use Rattle.unification.proofs.Atoms.{atoms-inside}
+use Rattle.unification.proofs.ThoroughAtoms.{all-remain}
 use Rattle.unification.proofs.unify.meet_atoms.Statement.{statement}
 use Rattle.unification.proofs.unify.meet_atoms.Tie as tie
 
@@ -11,11 +11,10 @@ meet-atoms-spec =
     tie.close
     (tie.spec
     (λ c. search needs)
+    (λ c κs. atoms-inside (c .before .before .before .before .pre .0) (c .before .before .before .before .pre .1))
+    (λ c κs. search needs)
+    (λ c. omega (arith, c .before .before .before .before .before .before .before .pre .1 .left .made, c .before .before .before .before .before .before .before .pre .0 .copies))
+    (λ c. omega (arith, c .before .before .before .before .before .before .before .pre .1 .right .made, c .before .before .before .before .before .before .before .pre .0 .copies))
+    (λ c κs. (c .before .before .before .before .before .before .before .args .work .now, all-remain (c .before .before .before .before .before .before .before .pre .0) (c .before .before .before .before .before .before .before .pre .1) (c .before .before .word-at .ensures) (c .before .arity .ensures)))
     (λ c. search needs)
-    (λ c κs. let s = c .before .before .before .before .before in (s .pre .0, brief-quiet refl (omega arith), literal-arguments (s .pre .0) (s .pre .1)))
-    (λ c. search needs)
-    (λ c. search needs)
-    (λ c. let s = c .before .before .before .before .before .before .before .before .before .before in literal-met (s .pre .0) (s .pre .1) (brief-met (c .before .before .before .before .meet-all .ensures) (c .if1 .taken)))
-    (λ c κs. let s = c .before .before .before .before .before .before .before .before .before .before .before in (s .args .work .now, record { good = s .pre .0; alike = s .pre .1; grown = c .before .before .before .before .before .meet-all .ensures .grown; count = refl }))
-    (λ c. search needs)
-    (λ c. let s = c .before .before .before .before .before .before .before .before .before .before .before .before .before .before in c .before .before .meet-thoroughly .ensures (s .args .work .now) (record { good = s .pre .0; alike = s .pre .1; grown = c .before .before .before .before .before .before .before .before .meet-all .ensures .grown; count = refl })))
+    (λ c. c .before .before .meet-rest .ensures (c .before .before .before .before .before .before .before .before .before .before .args .work .now) (all-remain (c .before .before .before .before .before .before .before .before .before .before .pre .0) (c .before .before .before .before .before .before .before .before .before .before .pre .1) (c .before .before .before .before .before .word-at .ensures) (c .before .before .before .before .arity .ensures))))
