@@ -10,7 +10,7 @@ use Rattle.clausetext.specs.declared.judge.Verdict.{Verdict}
 use Rattle.clausetext.specs.declared.judge.Verdict.the-variants.{Wrong, Fine}
 use Rattle.clausetext.specs.Judging.{judged}
 use Rattle.clausetext.specs.Syntax.{Clause}
-use Rattle.clausetext.specs.Texts.{Says, questions, Verdicts, fine}
+use Rattle.clausetext.specs.Texts.{Says, Permitted, questions, Verdicts, fine}
 use Rattle.clausetext.proofs.Judgement.{only-verdict}
 use Rattle.clausetext.proofs.OneReading.{one-reading}
 use Rattle.names.specs.Numbers.{Name}
@@ -20,16 +20,16 @@ use Rattle.naming.specs.Clauses.{namesOf, NamesPut}
 use Rattle.naming.proofs.Lookups.{named-at}
 use Rattle.text.specs.Put.{put, Put}
 use Rattle.text.specs.Quoted.{bytes}
-use Rattle.text.proofs.Putting.{then, same-size}
+use Rattle.text.proofs.Putting.{begin, finish, then, same-size}
 use Rattle.limits.specs.declared.find.Limit.{Limit}
 use Rattle.limits.specs.declared.find.Limit.the-variants.{Nothing, Literals, Arguments, Variables, Words, Clauses, Predicates, Functions, Total}
 use Rattle.limits.specs.declared.find.Passed.{Passed}
 use Rattle.limits.specs.Over.{isNothing, Over, firstOver}
 use Rattle.limits.specs.Counting.{Finds}
-use Rattle.limits.specs.Told.{limitText, overText, Told, NamePut}
+use Rattle.limits.specs.Told.{limitText, overText, Told, NamePut, ClauseTold}
 
 module _ {l : Limit} {o o′ : List ℕ} {n n′ : ℕ} where
-  pub say-nothing : l ≡ Nothing → Put o n (bytes " passes no limit\n") o′ n′ → Put o n (limitText l) o′ n′
+  pub say-nothing : l ≡ Nothing → Put o n (bytes "\n") o′ n′ → Put o n (limitText l) o′ n′
   unfolding limitText
   say-nothing e p = rw e p
 
@@ -96,15 +96,40 @@ module _ (text : RefT (List ℕ)) {asked : Bool} {names names′ : List ℕ} {n 
   name-told {number} k i p = record { put = λ cs y h. rw (i .bytes, name-is cs y number h k) at p }
 
 -- the line
-pub over-told : (file text : List ℕ) {p : Passed} → Finds text p → {o₀ o₁ o₂ o₃ o₄ : List ℕ} {n₀ n₁ n₂ n₃ n₄ : ℕ} → Put o₀ n₀ file o₁ n₁ → Put o₁ n₁ (bytes ": the clause ") o₂ n₂
-    → NamePut text (p .asked) (p .number) o₂ n₂ o₃ n₃ → Put o₃ n₃ (limitText (p .limit)) o₄ n₄ → Told file text o₀ n₀ o₄ n₄
-unfolding overText
-over-told file text {p} f a b q r = record {
-  over = λ short cs y e.
-      let l : p .limit ≡ firstOver [] cs .limit = f .limit cs y in
-      let some : isNothing (p .limit) ≡ false = ap (λ (x : Limit). isNothing x) l ∙ e in
-      then (then (then a b) (rw (f .name cs y some) at (q .put cs y (f .there cs y some)))) (rw l at r);
-}
+pub clause-told : (file text : List ℕ) {p : Passed} {o₀ o₁ o₂ o₃ o₄ : List ℕ} {n₀ n₁ n₂ n₃ n₄ : ℕ} → Put o₀ n₀ file o₁ n₁ → Put o₁ n₁ (bytes ": the clause ") o₂ n₂
+    → NamePut text (p .asked) (p .number) o₂ n₂ o₃ n₃ → Put o₃ n₃ (limitText (p .limit)) o₄ n₄ → ClauseTold file text p o₀ n₀ o₄ n₄
+clause-told file text a b q r = record { put = λ cs y h. then (then (then a b) (q .put cs y h)) r }
+
+-- a permitted text is not wrong
+module _ {text : List ℕ} (short : length text ≤ 65536) (g : Permitted text) where
+  not-wrong : {A : Type 0} {place : ℕ} → Verdicts text (Wrong place) → A
+  not-wrong w = let a = only-verdict w in let b = only-verdict (fine short (g .says)) in let z : _≡_ {A = ℕ} 0 1 = cc in absurd (omega arith)
+
+  module _ (file : List ℕ) {p : Passed} (f : Finds text p) {b : Bool} (n : b ≡ isNothing (p .limit)) {o o′ : List ℕ} {at end : ℕ} where
+    pub over-told : b ≡ false → ClauseTold file text p o at o′ end → Told file text o at o′ end
+    unfolding overText
+    over-told e t = record {
+      over = λ _ cs y.
+          let l : p .limit ≡ firstOver [] cs .limit = f .limit cs y in
+          let some : isNothing (p .limit) ≡ false = sym n ∙ e in
+          let same : isNothing (firstOver [] cs .limit) ≡ false = ap (λ (x : Limit). isNothing x) (sym l) ∙ some in
+          rw (same, ← l, ← f .name cs y some) (t .put cs y (f .there cs y some));
+      wrong = λ w. not-wrong w;
+    }
+
+    pub none-told : b ≡ true → {mid : List ℕ} {next : ℕ} → Put o at file mid next → Put mid next (bytes ": the table passes no limit\n") o′ end → Told file text o at o′ end
+    unfolding overText
+    none-told e a c = record {
+      over = λ _ cs y.
+          let same : isNothing (firstOver [] cs .limit) ≡ true = ap (λ (x : Limit). isNothing x) (sym (f .limit cs y)) ∙ sym n ∙ e in
+          rw same (then a c);
+      wrong = λ w. not-wrong w;
+    }
+
+pub ruleset over-laws = (over-told, none-told)
 
 pub wrong-untold : (file text : List ℕ) {v : Verdict} → v ≡ judged text → {place : ℕ} → v ≡ Wrong place → {out : List ℕ} {at : ℕ} → Told file text out at out at
-wrong-untold file text is e = record { over = λ short cs y f. let o = only-verdict (fine short y) in let z : _≡_ {A = ℕ} 0 1 = cc in absurd (omega arith) }
+wrong-untold file text is e {out} {at} = record {
+  over = λ short cs y. let o = only-verdict (fine short y) in let z : _≡_ {A = ℕ} 0 1 = cc in absurd (omega arith);
+  wrong = λ _. finish (begin out at []);
+}

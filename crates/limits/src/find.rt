@@ -176,7 +176,7 @@ fn limit_at(
     first(own, shared)
 }
 
-fn is_nothing(limit: Limit) -> bool
+pub(crate) fn is_nothing(limit: Limit) -> bool
     ensures { λ r. ⌜ r ≡ isNothing limit ⌝ }
 {
     match limit {
@@ -246,7 +246,7 @@ fn find_in(text: &[u8], marks: &[u32], places: &[u32]) -> Passed
 }
 
 // The first limit that a text passes.
-pub fn find(text: &[u8]) -> Passed
+pub(crate) fn find(text: &[u8]) -> Passed
     requires { ⌜ (length (now text) ≤ 65536) × Permitted (now text) ⌝ }
     ensures { λ r. ⌜ Finds (now (text .entry)) r ⌝ }
 {

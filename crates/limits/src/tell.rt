@@ -4,9 +4,11 @@ ghost use Prim.Native.Nat.{_≤_, _<_};
 ghost use lib.ListN.{length};
 ghost use Rattle.clausetext.specs.Texts.{Permitted};
 ghost use Rattle.text.specs.Put.{Put};
-ghost use Rattle.limits.specs.Told.{limitText, NamePut, Told};
+ghost use Rattle.limits.specs.Told.{limitText, NamePut, ClauseTold, Told};
 use crate::find::Limit;
+use crate::find::Passed;
 use crate::find::find;
+use crate::find::is_nothing;
 use clausetext::judge::Verdict;
 use clausetext::judge::judge_text;
 use naming::clauses::put_names;
@@ -17,7 +19,7 @@ fn reason(out: &mut [u8], at: usize, limit: Limit) -> usize
     ensures { λ r. ⌜ Put (now (out .entry)) at (limitText limit) (now (out .exit)) r ⌝ }
 {
     match limit {
-        Limit::Nothing => put::bytes(out, at, b" passes no limit\n"),
+        Limit::Nothing => put::bytes(out, at, b"\n"),
         Limit::Literals => put::bytes(
             out,
             at,
@@ -72,16 +74,29 @@ fn put_name(out: &mut [u8], at: usize, text: &[u8], asked: bool, number: usize) 
     put::bytes(out, at, name)
 }
 
+// The clause that passes a limit, and the limit.
+fn clause_text(out: &mut [u8], at: usize, file: &[u8], text: &[u8], p: Passed) -> usize
+    requires { ⌜ (length (now text) ≤ 65536) × Permitted (now text) × (p .number < 65536) ⌝ }
+    ensures { λ r. ⌜ ClauseTold (now (file .entry)) (now (text .entry)) p (now (out .entry)) at (now (out .exit)) r ⌝ }
+{
+    let limit = p.limit;
+    let a = put::bytes(out, at, file);
+    let b = put::bytes(out, a, b": the clause ");
+    let c = put_name(out, b, text, p.asked, p.number);
+    reason(out, c, limit)
+}
+
 fn over_text(out: &mut [u8], at: usize, file: &[u8], text: &[u8]) -> usize
     requires { ⌜ (length (now text) ≤ 65536) × Permitted (now text) ⌝ }
     ensures { λ r. ⌜ Told (now (file .entry)) (now (text .entry)) (now (out .entry)) at (now (out .exit)) r ⌝ }
 {
     let p = find(text);
     let limit = p.limit;
-    let a = put::bytes(out, at, file);
-    let b = put::bytes(out, a, b": the clause ");
-    let c = put_name(out, b, text, p.asked, p.number);
-    reason(out, c, limit)
+    if is_nothing(limit) {
+        let a = put::bytes(out, at, file);
+        return put::bytes(out, a, b": the table passes no limit\n");
+    }
+    clause_text(out, at, file, text, p)
 }
 
 // 19: the clause and the limit that it passes; nothing is written of a text that cannot be read.

@@ -10,9 +10,10 @@ use Rattle.text.specs.Put.{Put}
 use Rattle.text.specs.Quoted.{bytes}
 use Rattle.text.specs.Digits.{decimalText, longDecimalText}
 use Rattle.text.proofs.Putting.{then}
-use Rattle.season.specs.Season.{Run, counted, howMany, triesOf, oneIf}
+use Rattle.hukolearu.specs.declared.Outcome.{Outcome}
+use Rattle.season.specs.Season.{Run, resultOf, counted, howMany, triesOf, oneIf}
 use Rattle.season.specs.declared.Report.{Report}
-use Rattle.reports.specs.Counts.{sumOf, longSumOf, addedReport, Told, AddedUp, endedText, isFound, statusText, spentText, askedText, szsQuestionText, titleText, foundCountsText, otherCountsText, lastCountsText, seasonText}
+use Rattle.reports.specs.Counts.{sumOf, longSumOf, addedReport, Told, AddedUp, endedText, isFound, statusText, spentText, askedText, szsQuestionText, titleText, foundCountsText, otherCountsText, lastCountsText, seasonText, aloneReport, oneReport, noQuestionText}
 
 -- sums
 pub sum-over : (a b : ℕ) → 4294967295 < a + b → 4294967295 ≡ sumOf a b
@@ -179,3 +180,43 @@ module _ {o₀ o₁ o₂ : List ℕ} {n₀ n₁ n₂ : ℕ} where
       asked-is label name r p q s t = then p (then q (then s t))
 
 pub ruleset count-laws = (spent-is, found-counts-are, other-counts-are, last-counts-are, season-is, title-is, szs-question-is, asked-is)
+
+-- one question alone
+module _ (o : Outcome) where
+  no-more : o .tries + 0 ≡ o .tries
+  no-more = omega arith
+
+  module _ (e : o .status ≡ 0) where
+    pub alone-definite : o .disjuncts ≡ 1 → {r : Report} → r ≡ oneReport 1 0 0 0 0 0 (o .tries) → r ≡ aloneReport o
+    unfolding aloneReport resultOf howMany triesOf
+    alone-definite d f = rw (f, eq-eqb (o .status) 0 e, eq-eqb (o .disjuncts) 1 d, no-more)
+
+    pub alone-indefinite : (o .disjuncts ≡ 1 → ⊥) → {r : Report} → r ≡ oneReport 0 1 0 0 0 0 (o .tries) → r ≡ aloneReport o
+    unfolding aloneReport resultOf howMany triesOf
+    alone-indefinite d f = rw (f, eq-eqb (o .status) 0 e, ne-eqb (o .disjuncts) 1 d, no-more)
+
+  module _ (n : o .status ≡ 0 → ⊥) where
+    pub alone-none : o .status ≡ 10 → {r : Report} → r ≡ oneReport 0 0 1 0 0 0 (o .tries) → r ≡ aloneReport o
+    unfolding aloneReport resultOf howMany triesOf
+    alone-none e f = rw (f, ne-eqb (o .status) 0 n, eq-eqb (o .status) 10 e, no-more)
+
+    module _ (m : o .status ≡ 10 → ⊥) where
+      pub alone-ran-out : o .status ≡ 11 → {r : Report} → r ≡ oneReport 0 0 0 1 0 0 (o .tries) → r ≡ aloneReport o
+      unfolding aloneReport resultOf howMany triesOf
+      alone-ran-out e f = rw (f, ne-eqb (o .status) 0 n, ne-eqb (o .status) 10 m, eq-eqb (o .status) 11 e, no-more)
+
+      module _ (k : o .status ≡ 11 → ⊥) where
+        pub alone-too-long : o .status ≡ 16 → {r : Report} → r ≡ oneReport 0 0 0 0 1 0 (o .tries) → r ≡ aloneReport o
+        unfolding aloneReport resultOf howMany triesOf
+        alone-too-long e f = rw (f, ne-eqb (o .status) 0 n, ne-eqb (o .status) 10 m, ne-eqb (o .status) 11 k, eq-eqb (o .status) 16 e, no-more)
+
+        pub alone-refused : (o .status ≡ 16 → ⊥) → {r : Report} → r ≡ oneReport 0 0 0 0 0 1 (o .tries) → r ≡ aloneReport o
+        unfolding aloneReport resultOf howMany triesOf
+        alone-refused j f = rw (f, ne-eqb (o .status) 0 n, ne-eqb (o .status) 10 m, ne-eqb (o .status) 11 k, ne-eqb (o .status) 16 j, no-more)
+
+pub ruleset alone-laws = (alone-definite, alone-indefinite, alone-none, alone-ran-out, alone-too-long, alone-refused)
+
+pub no-question-is : (label : List ℕ) {o₀ o₁ o₂ : List ℕ} {n₀ n₁ n₂ : ℕ} → Put o₀ n₀ label o₁ n₁
+    → Put o₁ n₁ (bytes ": this clause is no question: its role is not negated_conjecture\n") o₂ n₂ → Put o₀ n₀ (noQuestionText label) o₂ n₂
+unfolding noQuestionText
+no-question-is label p q = then p q

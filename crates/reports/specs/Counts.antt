@@ -1,13 +1,32 @@
 -- The season report in plain words (document 02, order 13). Each question is put as a season of its own, and the reports are added up.
 use mathlib.Core.Bool.{Bool, cond, _||_}
-use mathlib.Core.List.{List, _++_}
+use mathlib.Core.List.{List, [], _∷_, _++_}
 use mathlib.Core.Path.{_≡_}
 use Prim.Native.Nat.{ℕ, _+_, _≤_, min}
 use lib.Dec.{eqb}
 use Rattle.text.specs.Quoted.{bytes}
 use Rattle.text.specs.Digits.{decimalText, longDecimalText}
-use Rattle.season.specs.Season.{Run, counted}
+use Rattle.hukolearu.specs.declared.Outcome.{Outcome}
+use Rattle.season.specs.Season.{Run, resultOf, counted}
 use Rattle.season.specs.declared.Report.{Report}
+
+-- one question alone, by what its search came to
+unfoldable pub aloneReport : Outcome → Report
+aloneReport o = counted (record { result = resultOf o; tries = o .tries; proof = []; answer = [] } ∷ [])
+
+abbrev pub oneReport : ℕ → ℕ → ℕ → ℕ → ℕ → ℕ → ℕ → Report
+oneReport definite indefinite none ranout toolong refused tries =
+    record {
+      status = 0;
+      place = 0;
+      definite = definite;
+      indefinite = indefinite;
+      none = none;
+      ranout = ranout;
+      toolong = toolong;
+      refused = refused;
+      tries = tries;
+    }
 
 -- counts go up to the largest that a word holds, tries to the largest of 64 bits
 abbrev pub sumOf : ℕ → ℕ → ℕ
@@ -71,6 +90,10 @@ askedText label name r = (label ++ bytes ": ") ++ ((name ++ bytes ": ") ++ (ende
 
 unfoldable pub szsQuestionText : List ℕ → Report → List ℕ
 szsQuestionText name r = bytes "% SZS status " ++ (statusText r ++ ((bytes " for " ++ name) ++ bytes "\n"))
+
+-- a clause among the questions that is none
+unfoldable pub noQuestionText : List ℕ → List ℕ
+noQuestionText label = label ++ bytes ": this clause is no question: its role is not negated_conjecture\n"
 
 unfoldable pub titleText : List ℕ → ℕ → ℕ → List ℕ
 titleText table limit budget =

@@ -5,8 +5,10 @@ use mathlib.Core.Path.{_≡_}
 use Prim.Native.Nat.{ℕ}
 use Rattle.text.specs.Quoted.{bytes}
 use Rattle.season.specs.declared.Report.{Report}
-use Rattle.reports.specs.Clauses.{clausesFrom}
+use Rattle.desk.specs.declared.Report.the-variants.{MatineeAndEvening, Either, NotRecorded, RanOut}
+use Rattle.reports.specs.Clauses.{clausesFrom, statedText}
 use Rattle.reports.specs.Counts.{endedText, statusText}
+use Rattle.reports.specs.Said.{slotText, deskText}
 use Rattle.reports.specs.Records.{saidIn, linesOf, wordsSaid, firstFault}
 use Rattle.reports.specs.declared.records.Wanted.the-variants.{Nothing, Day, House, Slot, LineEnd}
 use Rattle.reports.specs.declared.records.Said.the-variants.{Empty, Record, Wrong}
@@ -41,3 +43,18 @@ ResultsTold =
     × (statusText (ofNone 0 0) ≡ bytes "InputError")
     × (statusText (ofNone 1 0) ≡ bytes "GaveUp")
     × (statusText (ofNone 0 1) ≡ bytes "Unsatisfiable")
+
+-- a table without its question, wherever that stands; a word that only begins like the role is no question
+unfoldable pub QuestionsLeftOut : Type 0
+QuestionsLeftOut =
+    (statedText (bytes "cnf(a,axiom,p).cnf(q,negated_conjecture,~p). cnf(b,axiom,n).") ≡ bytes "cnf(a,axiom,p). cnf(b,axiom,n).")
+    × (statedText (bytes "cnf(q,negated_conjecture,~p).") ≡ [])
+    × (statedText (bytes "cnf(negated_conjecture,axiom,p).") ≡ bytes "cnf(negated_conjecture,axiom,p).")
+
+-- two events are not an open bill, and neither is a day without a record
+unfoldable pub SlotsTold : Type 0
+SlotsTold =
+    (slotText MatineeAndEvening ≡ bytes "matinee and evening, two events\n")
+    × (slotText Either ≡ bytes "matinee or evening, the bill leaves it open\n")
+    × (slotText RanOut ≡ bytes "ran out, nothing is known yet\n")
+    × (deskText 92 17 NotRecorded ≡ bytes "Day 92, house 17: not recorded\n")

@@ -1,8 +1,10 @@
 // The season report in plain words: a line for each question with one for other tools, and the counts.
 ghost use mathlib.Core.Path.{_≡_};
 ghost use Rattle.text.specs.Put.{Put};
-ghost use Rattle.reports.specs.Counts.{sumOf, longSumOf, addedReport, endedText, isFound, statusText, spentText, askedText, szsQuestionText, titleText, foundCountsText, otherCountsText, lastCountsText, seasonText};
+ghost use Rattle.reports.specs.Counts.{sumOf, longSumOf, addedReport, endedText, isFound, statusText, spentText, askedText, szsQuestionText, titleText, foundCountsText, otherCountsText, lastCountsText, seasonText, aloneReport, oneReport, noQuestionText};
 use assistant::place;
+use hukolearu::Outcome;
+use hukolearu::status;
 use season::Report;
 use text::put;
 
@@ -40,6 +42,66 @@ pub fn added(a: Report, b: Report) -> Report
         refused: sum(a.refused, b.refused),
         tries: long_sum(a.tries, b.tries),
     }
+}
+
+fn only(
+    definite: u32,
+    indefinite: u32,
+    none: u32,
+    ranout: u32,
+    toolong: u32,
+    refused: u32,
+    tries: u32,
+) -> Report
+    ensures { λ r. ⌜ r ≡ oneReport definite indefinite none ranout toolong refused tries ⌝ }
+{
+    Report {
+        status: 0,
+        place: 0,
+        definite,
+        indefinite,
+        none,
+        ranout,
+        toolong,
+        refused,
+        tries: tries as u64,
+    }
+}
+
+// The report of one question alone, by what its search came to.
+pub fn alone(o: Outcome) -> Report
+    ensures { λ r. ⌜ r ≡ aloneReport o ⌝ }
+{
+    let ended = o.status;
+    let tries = o.tries;
+    if ended == status::DONE {
+        if o.disjuncts == 1 {
+            return only(1, 0, 0, 0, 0, 0, tries);
+        }
+        return only(0, 1, 0, 0, 0, 0, tries);
+    }
+    if ended == status::NONE_FOUND {
+        return only(0, 0, 1, 0, 0, 0, tries);
+    }
+    if ended == status::RAN_OUT {
+        return only(0, 0, 0, 1, 0, 0, tries);
+    }
+    if ended == status::ANSWER_TOO_LONG {
+        return only(0, 0, 0, 0, 1, 0, tries);
+    }
+    only(0, 0, 0, 0, 0, 1, tries)
+}
+
+// A clause among the questions that is none, by its place.
+pub fn no_question(out: &mut [u8], at: usize, label: &[u8]) -> usize
+    ensures { λ n. ⌜ Put (now (out .entry)) at (noQuestionText (now (label .entry))) (now (out .exit)) n ⌝ }
+{
+    let a = put::bytes(out, at, label);
+    put::bytes(
+        out,
+        a,
+        b": this clause is no question: its role is not negated_conjecture\n",
+    )
 }
 
 // What the one question of a report came to.

@@ -1,0 +1,10 @@
+pub mod Refusing
+pub mod Looking
+pub mod Asked
+pub mod Used
+pub mod Paging
+pub mod Wordings
+pub mod Telling
+pub mod Asking
+pub mod Promises
+pub mod Examples
