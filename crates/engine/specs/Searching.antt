@@ -27,8 +27,8 @@ use Rattle.unification.specs.Good.{wordAt, LiteralStands, Good, Undone}
 use Rattle.tableaux.specs.Leaves.{leafAt, questionsAmong}
 use Rattle.tableaux.specs.Ready.{openLeaves, Ready, Stands, Later, leafOf}
 use Rattle.engine.specs.Performing.{Comes}
-use Rattle.index.specs.Places.{scannedPlace}
-use Rattle.index.specs.Noting.{keysIn, scansIn, ahead, Linked}
+use Rattle.index.specs.Places.{scannedPlace, mostNoted}
+use Rattle.index.specs.Noting.{keysIn, scansIn, ahead, countAt, Linked}
 use Rattle.index.specs.Scanning.{otherSign, entriesFrom}
 use Rattle.index.specs.declared.entries.Scan.{Scan}
 use Rattle.index.specs.declared.entries.Candidate.{Candidate}
@@ -72,7 +72,7 @@ roomAt f m task place = length (openLeaves f m place) + 7 * (task .bound + 1 - c
 pub record Treats (f m : List ℕ) (task : Task) (place : Place) : Type 0 where
   pub asked : Asked f task
   pub ready : Ready f m place
-  pub linked : task .noted ≡ true → Linked f (task .body) m 0
+  pub linked : countAt m ≤ mostNoted → Linked f (task .body) m 0
 
 -- the leaf's word with the other sign
 abbrev pub Wanted : List ℕ → List ℕ → Place → ℕ → Type 0
@@ -159,12 +159,12 @@ pub record Finds (f m′ : List ℕ) (task : Task) (place : Place) (r : Searched
 abbrev pub Leaves : Ending → List ℕ → List ℕ → List ℕ → Place → Searched → Type 0
 Leaves Found f m m′ place r = Noting f m m′ place r
 Leaves Nothing f m m′ place r = Again f m m′ place
-Leaves Out f m m′ place r = Unit {0}
+Leaves Out f m m′ place r = countAt m ≤ mostNoted → r .left ≡ 0
 
 abbrev pub Tells : Ending → List ℕ → List ℕ → Task → Place → Searched → Play → Result Step → Type 0
 Tells Found f m′ task place r p result = Finds f m′ task place r p result
 Tells Nothing f m′ task place r p result = result ≡ no-way (r .left)
-Tells Out f m′ task place r p result = (r .left ≡ 0 → result ≡ ran-out) × (task .noted ≡ true → r .left ≡ 0)
+Tells Out f m′ task place r p result = r .left ≡ 0 → result ≡ ran-out
 
 -- A search from a place on, against what the rules say of every play that the work words stand for, to any depth that is enough.
 pub record Runs (f m m′ : List ℕ) (task : Task) (place : Place) (budget : ℕ) (r : Searched) (says : ℕ → Play → Result Step) : Type 0 where
@@ -218,8 +218,8 @@ unfoldable pub givesUp : List ℕ → ℕ → ℕ → Bool
 givesUp m limit left = not (eqb left 0) && leb limit (getD m scannedPlace 0)
 
 -- the body's literals are noted, where a search goes by notes
-abbrev pub LinkedFor : Bool → List ℕ → List ℕ → Type 0
-LinkedFor noted f m = noted ≡ true → Linked f (length f - 4) m 0
+abbrev pub LinkedFor : List ℕ → List ℕ → Type 0
+LinkedFor f m = countAt m ≤ mostNoted → Linked f (length f - 4) m 0
 
 -- the search as a whole
 abbrev pub Ends : Ending → List ℕ → List ℕ → ℕ → Conditions → ℕ → Searched → Type 0
@@ -228,14 +228,14 @@ Ends Nothing f m question conditions budget r = (searchFor (settingFor f conditi
 Ends Out f m question conditions budget r = searchFor (settingFor f conditions) budget ≡ runs-out budget
 
 -- the same with notes or by scans; a search by scans may be given up with tries left
-abbrev pub RanBy : Ending → List ℕ → List ℕ → ℕ → Conditions → Bool → ℕ → Searched → Type 0
-RanBy Found f m question conditions noted budget r = Ends Found f m question conditions budget r
-RanBy Nothing f m question conditions noted budget r = Ends Nothing f m question conditions budget r
-RanBy Out f m question conditions noted budget r = (r .left ≡ 0 → Ends Out f m question conditions budget r) × (noted ≡ true → r .left ≡ 0)
+abbrev pub RanBy : Ending → List ℕ → List ℕ → List ℕ → ℕ → Conditions → ℕ → Searched → Type 0
+RanBy Found f m₀ m question conditions budget r = Ends Found f m question conditions budget r
+RanBy Nothing f m₀ m question conditions budget r = Ends Nothing f m question conditions budget r
+RanBy Out f m₀ m question conditions budget r = (r .left ≡ 0 → Ends Out f m question conditions budget r) × (countAt m₀ ≤ mostNoted → r .left ≡ 0)
 
-pub record Ran (f m : List ℕ) (question : ℕ) (conditions : Conditions) (noted : Bool) (budget : ℕ) (r : Searched) : Type 0 where
+pub record Ran (f m₀ m : List ℕ) (question : ℕ) (conditions : Conditions) (budget : ℕ) (r : Searched) : Type 0 where
   pub within : r .left ≤ budget
-  pub ends : RanBy (r .ending) f m question conditions noted budget r
+  pub ends : RanBy (r .ending) f m₀ m question conditions budget r
 
 -- the tries that a search by scans may make at most; and whether, with so many tries, it is the search with the whole budget
 abbrev pub earlyTries : ℕ → ℕ → ℕ

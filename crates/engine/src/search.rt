@@ -26,23 +26,29 @@ ghost use lib.ListN.{length, take};
 ghost use Rattle.words.specs.Fields.{kindOf};
 ghost use Rattle.unification.specs.Places.{workWords};
 ghost use Rattle.index.specs.Scanning.{Standing, IsNext};
+ghost use Rattle.index.specs.Places.{mostNoted};
+ghost use Rattle.index.specs.Noting.{countAt};
 ghost use Rattle.table.specs.File.{judge};
 ghost use Rattle.unification.specs.State.{copiesOf, countOf};
 ghost use Rattle.unification.specs.Good.{wordAt, Good};
 ghost use Rattle.tableaux.specs.Ready.{leafOf};
-ghost use Rattle.engine.specs.Searching.{without, Treats, Wanted, extendsAt, Allows, Takes, Restored, Treated, Attempted, Rowed, reductionsAt, extensionsAt, furtherAt, reachedBy, costing, givesUp, LinkedFor, Ran, earlyTries, settledBy, Ends};
+ghost use Rattle.engine.specs.Searching.{without, Treats, Wanted, extendsAt, Allows, Takes, Restored, Treated, Attempted, Rowed, reductionsAt, extensionsAt, extensionsFrom, furtherAt, reachedBy, costing, givesUp, LinkedFor, Ran, earlyTries, settledBy, Ends};
 ghost use Rattle.engine.specs.Nowhere.{Opening, Vain};
 
 // A body of fewer words is noted before the search begins.
 const SHORT: u32 = 512;
 
-// What a search goes by: how many words of the file are the body, where the question begins, the bound, whether positive leaves are restarted, and whether the body's literals are noted.
+// No more literals than this are ever noted; a larger count says that none are, and the search goes by scans.
+const MOST: u32 = 3584;
+
+const NOTHING: u32 = 4096;
+
+// What a search goes by: how many words of the file are the body, where the question begins, the bound, and whether positive leaves are restarted.
 pub struct Task {
     pub body: u32,
     pub question: u32,
     pub bound: u32,
     pub restarts: bool,
-    pub noted: bool,
 }
 
 // A candidate of a leaf: the reference of an ancestor's literal, and its height; where a literal is entered; or the restart.
@@ -229,44 +235,36 @@ fn given_up(work: &[u32], body: u32, left: u32) -> bool
     body <= work[places::SCANNED]
 }
 
-// The extensions of the leftmost leaf, found by a scan of the body, unless the search is given up.
+// The extensions of the leftmost leaf from where a scan of the body stands, unless the search is given up. It calls itself for the next, so that the compiler keeps it out of the loops of a longer search.
 fn extensions_by_scan(
     file: &[u32],
     work: &mut [u32],
     task: Task,
     place: Place,
     wanted: u32,
+    from: Scan,
     tries: u32,
 ) -> Searched
-    requires { ⌜ Treats (now file) (now work) task place × (0 < place .head) × Wanted (now file) (now work) place wanted × (copiesOf (now work) ≤ task .bound) × (extendsAt (now file) (now work) task place ≡ true) × (task .noted ≡ false) ⌝ }
-    ensures { λ r. ⌜ Rowed (now (file .entry)) (now (work .entry)) (now (work .exit)) task place tries r (extensionsAt (now (file .entry)) (now (work .entry)) task place) ⌝ }
+    requires { ⌜ Treats (now file) (now work) task place × (0 < place .head) × Wanted (now file) (now work) place wanted × (copiesOf (now work) ≤ task .bound) × (extendsAt (now file) (now work) task place ≡ true) × (mostNoted < countAt (now work)) × Standing (take (task .body) (now file)) from ⌝ }
+    ensures { λ r. ⌜ Rowed (now (file .entry)) (now (work .entry)) (now (work .exit)) task place tries r (extensionsFrom (now (file .entry)) task wanted from) ⌝ }
 {
-    let symbol = vain::first_symbol(file, work, tableau::literal_of(work, place.head));
-    let mut scan = entries::beginning();
-    let mut left = tries;
-    loop {
-        if given_up(work, task.body, left) {
-            return without(Ending::Out, left);
-        }
-        let candidate = sought(file, work, task.body, wanted, scan);
-        let Candidate::Entry(entry) = candidate else {
-            return without(Ending::Nothing, left);
-        };
-        if left == 0 {
-            return without(Ending::Out, left);
-        }
-        scan = entries::past(entry, wanted);
-        if in_vain(file, work, task, place, symbol, entry) {
-            left -= 1;
-            continue;
-        }
-        let tried = attempt(file, work, task, place, Move::Enter(entry), left - 1);
-        let ending = tried.ending;
-        let Ending::Nothing = ending else {
-            return tried;
-        };
-        left = tried.left;
+    if given_up(work, task.body, tries) {
+        return without(Ending::Out, tries);
     }
+    let candidate = sought(file, work, task.body, wanted, from);
+    let Candidate::Entry(entry) = candidate else {
+        return without(Ending::Nothing, tries);
+    };
+    if tries == 0 {
+        return without(Ending::Out, tries);
+    }
+    let tried = attempt(file, work, task, place, Move::Enter(entry), tries - 1);
+    let ending = tried.ending;
+    let Ending::Nothing = ending else {
+        return tried;
+    };
+    let next = entries::past(entry, wanted);
+    extensions_by_scan(file, work, task, place, wanted, next, tried.left)
 }
 
 // The extensions of the leftmost leaf by the notes of the body's literals: by clause, then literal.
@@ -278,7 +276,7 @@ fn extensions(
     wanted: u32,
     tries: u32,
 ) -> Searched
-    requires { ⌜ Treats (now file) (now work) task place × (0 < place .head) × Wanted (now file) (now work) place wanted × (copiesOf (now work) ≤ task .bound) × (extendsAt (now file) (now work) task place ≡ true) × (task .noted ≡ true) ⌝ }
+    requires { ⌜ Treats (now file) (now work) task place × (0 < place .head) × Wanted (now file) (now work) place wanted × (copiesOf (now work) ≤ task .bound) × (extendsAt (now file) (now work) task place ≡ true) × (countAt (now work) ≤ mostNoted) ⌝ }
     ensures { λ r. ⌜ Rowed (now (file .entry)) (now (work .entry)) (now (work .exit)) task place tries r (extensionsAt (now (file .entry)) (now (work .entry)) task place) ⌝ }
 {
     let symbol = vain::first_symbol(file, work, tableau::literal_of(work, place.head));
@@ -322,10 +320,11 @@ fn further(
     }
     if !profile::restarts(task.restarts, word) {
         let wanted = entries::other_sign(word);
-        if task.noted {
+        if work[places::NOTED] <= MOST {
             return extensions(file, work, task, place, wanted, tries);
         }
-        return extensions_by_scan(file, work, task, place, wanted, tries);
+        let from = entries::beginning();
+        return extensions_by_scan(file, work, task, place, wanted, from, tries);
     }
     if tries == 0 {
         return without(Ending::Out, tries);
@@ -361,11 +360,10 @@ fn run(
     work: &mut [u32],
     question: u32,
     conditions: Conditions,
-    noted: bool,
     budget: u32,
 ) -> Searched
-    requires { ⌜ (length (now work) ≡ workWords) × (judge (now file) .status ≡ 0) × (question ≡ judge (now file) .question) × (conditions .bound ≤ 32) × LinkedFor noted (now file) (now work) ⌝ }
-    ensures { λ r. ⌜ Ran (now (file .entry)) (now (work .exit)) question conditions noted budget r ⌝ }
+    requires { ⌜ (length (now work) ≡ workWords) × (judge (now file) .status ≡ 0) × (question ≡ judge (now file) .question) × (conditions .bound ≤ 32) × LinkedFor (now file) (now work) ⌝ }
+    ensures { λ r. ⌜ Ran (now (file .entry)) (now (work .entry)) (now (work .exit)) question conditions budget r ⌝ }
 {
     let body = (file.len() - 4) as u32;
     let place = tableau::begin(file, work, question);
@@ -374,7 +372,6 @@ fn run(
         question,
         bound: conditions.bound,
         restarts: conditions.restarts,
-        noted,
     };
     treat(file, work, task, place, budget)
 }
@@ -392,7 +389,7 @@ fn run_noted(
 {
     notes::note(file, work, (file.len() - 4) as u32);
     links::link(file, work);
-    run(file, work, question, conditions, true, budget)
+    run(file, work, question, conditions, budget)
 }
 
 // The tries that a search by scans may make at most.
@@ -435,7 +432,8 @@ pub fn find(
         return run_noted(file, work, question, conditions, budget);
     }
     let most = early(body, budget);
-    let first = run(file, work, question, conditions, false, most);
+    work[places::NOTED] = NOTHING;
+    let first = run(file, work, question, conditions, most);
     if !settled(first, most, budget) {
         return run_noted(file, work, question, conditions, budget);
     }

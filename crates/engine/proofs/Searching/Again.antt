@@ -15,13 +15,18 @@ use Rattle.rules.proofs.Unify.Solution as bindings
 use Rattle.unification.specs.Places.{mostVariables, mostLeaves, valuePlaces, valueEnd, literalPlaces, parentPlaces, nextPlaces, stepPlaces, numberPlaces, countPlace, trailPlaces, workWords, mostCopies, copiesPlace, startPlaces}
 use Rattle.unification.specs.State.{startAt, copiesOf, countOf, trailAt, boundAt, wordsAt, termOf, Points, bindingsOf, bindingsIn}
 use Rattle.unification.specs.Good.{LiteralStands, Entry, Held, Good, Undone}
-use Rattle.index.specs.Places.{scannedPlace}
+use Rattle.index.specs.Places.{scannedPlace, notedPlace}
+use Rattle.index.specs.Noting.{countAt}
 use Rattle.tableaux.specs.Leaves.{leavesFrom, questionsAmong}
 use Rattle.tableaux.specs.Ready.{Noted, Ready, Stands, Later}
 use Rattle.engine.specs.Searching.{Again, costing}
 use Rattle.tableaux.specs.declared.tableau.Place.{Place}
 use Rattle.unification.proofs.Bound.{entry-small, free-same, unbound, bindings-length}
 use Rattle.tableaux.proofs.Leaves.{SameLeaves, leaves-same, questions-same}
+
+-- how many literals are noted stays with the notes
+pub count-kept : {m m′ : List ℕ} {place : Place} → Later m m′ place → countAt m′ ≡ countAt m
+count-kept later = later .notes notedPlace (omega arith) (omega arith)
 
 -- what stays from one moment to the next, and to the one after it
 pub later-then : {m m′ m″ : List ℕ} {place next : Place} → place .leaves ≤ next .leaves → place .steps ≤ next .steps → Later m m′ place → Later m′ m″ next → Later m m″ place

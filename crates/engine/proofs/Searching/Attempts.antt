@@ -27,7 +27,7 @@ use Rattle.index.proofs.Linking.{linked-same}
 use Rattle.tableaux.specs.declared.tableau.Taken.{Taken}
 use Rattle.unification.specs.declared.unify.Meeting.{Meeting}
 use Rattle.unification.specs.declared.unify.Meeting.the-variants.{Made, Clash, Circle}
-use Rattle.engine.proofs.Searching.Again.{later-then, taken-back}
+use Rattle.engine.proofs.Searching.Again.{count-kept, later-then, taken-back}
 
 -- no way, by an ending that is known
 module _ (f m : List ℕ) (task : Task) (place : Place) (r : Searched) (p : Play) (result : Result Step) where
@@ -88,7 +88,7 @@ module _ {f m m₁ : List ℕ} {task : Task} {place : Place} (treats : Treats f 
         record {
           asked = treats .asked;
           ready = onward .ready;
-          linked = λ noted. linked-same (takes .good .size) (takes .later .notes) (treats .linked noted);
+          linked = λ few. linked-same (takes .good .size) (takes .later .notes) (treats .linked (omega (arith, few, count-kept (takes .later))));
         }
 
     pub attempt-falls : roomAt f m₁ task (taken .place) < roomAt f m task place
@@ -150,13 +150,13 @@ module _ {f m m₁ : List ℕ} {task : Task} {place : Place} (treats : Treats f 
               let n = onward .steps in
               record { good = l .good; earlier = λ i h. l .earlier i (omega arith) ∙ takes .later .steps i h; marks = λ v h. l .marks v h ∙ takes .later .marks v h }
           left-so Nothing s l = absurd (s refl)
-          left-so Out s l = tt
+          left-so Out s l = λ few. l (omega (arith, few, count-kept (takes .later)))
 
           go : (e : Ending) → (e ≡ Nothing → ⊥) → Leaves e f m₁ m₂ (taken .place) r → (p q : Play) → perform (settingAt f task) p (stepBy candidate) ≡ goes-on q → (depth : ℕ)
               → Tells e f m₂ task (taken .place) r q (below depth q) → Tells e f m₂ task place r p (one (plays (settingAt f task)) depth left p (stepBy candidate))
           go Found s l p q e depth h = found-here l p q e depth h
           go Nothing s l p q e depth h = absurd (s refl)
-          go Out s l p q e depth h = (λ z. one-ran-out (plays (settingAt f task)) depth left p (stepBy candidate) q (goes-some _ q e) (h .0 z), h .1)
+          go Out s l p q e depth h = λ z. one-ran-out (plays (settingAt f task)) depth left p (stepBy candidate) q (goes-some _ q e) (h z)
 
       module _ (nothing : r .ending ≡ Nothing) where
         again : Again f m₁ m₂ (taken .place)

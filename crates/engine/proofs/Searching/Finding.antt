@@ -8,7 +8,8 @@ use Prim.Native.Nat.{ℕ, _+_, _-_, _/_, _^_, _≤_, _<_}
 use native.Mathlib.Omega.{arith}
 use borrow.Author.Tests.{eq-eqb, ne-eqb, eqb-true, lt-ltb, le-ltb, ltb-false}
 use lib.Dec.{eqb, ltb}
-use lib.ListN.{length, take, getD}
+use lib.ListN.{length, take, getD, set}
+use lib.Seq.{getD-set-same}
 use Rattle.table.specs.Body.{lastOf, starts}
 use Rattle.table.specs.File.{judge, tableIn}
 use Rattle.table.specs.Syntax.{Clause}
@@ -22,13 +23,14 @@ use Rattle.rules.specs.Verdict.{SearchVerdict, runs-out}
 use Rattle.rules.proofs.Unify.Tests.{decide}
 use Rattle.rules.proofs.Demands.{passed-closed, proof-is-short, larger-budget}
 use Rattle.rules.proofs.Search.{any-depth-says, steps-left-few}
-use Rattle.unification.specs.Places.{mostLeaves, stepPlaces}
+use Rattle.unification.specs.Places.{mostLeaves, stepPlaces, workWords}
 use Rattle.engine.specs.Ended.{settingFor}
 use Rattle.engine.specs.Ended as ended
 use Rattle.unification.specs.State.{startAt, copiesOf, ClauseAt, bindingsOf}
 use Rattle.tableaux.specs.Leaves.{questionsAmong}
 use Rattle.tableaux.specs.Ready.{openLeaves, Stands, NotesKept, Begun}
-use Rattle.index.specs.Noting.{Few}
+use Rattle.index.specs.Places.{mostNoted, notedPlace}
+use Rattle.index.specs.Noting.{Few, countAt, Linked}
 use Rattle.index.proofs.Linking.{linked-same}
 use Rattle.engine.proofs.Literals.Entries.{few-literals}
 use Rattle.engine.specs.Searching.{questionAt, Asked, roomAt, Treats, Leaves, Tells, Treated, LinkedFor, Ends, RanBy, Ran, earlyTries, settledBy}
@@ -87,9 +89,9 @@ module _ (f : List ℕ) (z : judge f .status ≡ 0) {question : ℕ} (eq : quest
           questions = sym first-question;
         }
 
-  module _ (small : (i : ℕ) → getD f i 0 < 2 ^ 32) (conditions : Conditions) (low : conditions .bound ≤ 32) (noted : Bool) where
+  module _ (small : (i : ℕ) → getD f i 0 < 2 ^ 32) (conditions : Conditions) (low : conditions .bound ≤ 32) where
     abbrev task : Task
-    task = record { body = length f - 4; question = question; bound = conditions .bound; restarts = conditions .restarts; noted = noted }
+    task = record { body = length f - 4; question = question; bound = conditions .bound; restarts = conditions .restarts }
 
     pub file-asked : Asked f task
     file-asked =
@@ -103,9 +105,9 @@ module _ (f : List ℕ) (z : judge f .status ≡ 0) {question : ℕ} (eq : quest
         }
 
     module _ {m : List ℕ} {place : Place} (begun : Begun f m question place) where
-      pub run-treats : {m₀ : List ℕ} → LinkedFor noted f m₀ → NotesKept m₀ m → Treats f m task place
+      pub run-treats : {m₀ : List ℕ} → LinkedFor f m₀ → NotesKept m₀ m → Treats f m task place
       run-treats linked kept =
-          record { asked = file-asked; ready = begun .ready; linked = λ y. linked-same (begun .ready .good .size) kept (linked y) }
+          record { asked = file-asked; ready = begun .ready; linked = λ few. linked-same (begun .ready .good .size) kept (linked (omega (arith, few, kept notedPlace (omega arith) (omega arith)))) }
 
       enough : roomAt f m task place ≤ mostLeaves
       enough = omega (arith, begun .ready .taken, begun .ready .room, begun .copies, begun .steps)
@@ -117,13 +119,13 @@ module _ (f : List ℕ) (z : judge f .status ≡ 0) {question : ℕ} (eq : quest
       deep budget =
           any-depth-says (settingFor f conditions) 232 budget (omega (arith, steps-left-few (settingFor f conditions) (accepted-within f z) low, longest (conditions .restarts)))
 
-      module _ {m′ : List ℕ} {budget : ℕ} {r : Searched} (treated : Treated f m m′ task place budget r) where
-        pub run-ends : Ran f m′ question conditions noted budget r
+      module _ {m₀ m′ : List ℕ} (kept : NotesKept m₀ m) {budget : ℕ} {r : Searched} (treated : Treated f m m′ task place budget r) where
+        pub run-ends : Ran f m₀ m′ question conditions budget r
         unfolding reported check
         run-ends = record { within = treated .within; ends = go (r .ending) (treated .leaves) (treated .tells (begin (tableIn f)) stands mostLeaves enough) }
           where
             go : (e : Ending) → Leaves e f m m′ place r → Tells e f m′ task place r (begin (tableIn f)) (search (plays (settingFor f conditions)) 232 budget (begin (tableIn f)))
-                → RanBy e f m′ question conditions noted budget r
+                → RanBy e f m₀ m′ question conditions budget r
             go Found l h =
                 let steps : r .steps ≡ length (h .path) = omega (arith, h .count, begun .steps) in
                 let from : stepPlaces + place .steps ≡ stepPlaces = omega (arith, begun .steps) in
@@ -145,17 +147,20 @@ module _ (f : List ℕ) (z : judge f .status ≡ 0) {question : ℕ} (eq : quest
                       };
                 }
             go Nothing l h = (deep budget ∙ ap (reported budget) h, treated .within)
-            go Out l h = (λ z. deep budget ∙ ap (reported budget) (h .0 z), h .1)
+            go Out l h = (λ z. deep budget ∙ ap (reported budget) (h z), λ few. l (omega (arith, few, kept notedPlace (omega arith) (omega arith))))
 
 -- a search by notes ends only as the search does
-module _ {f m : List ℕ} {question : ℕ} {conditions : Conditions} {budget : ℕ} {r : Searched} where
-  pub noted-ends : {noted : Bool} → noted ≡ true → Ran f m question conditions noted budget r → Ends (r .ending) f m question conditions budget r
-  noted-ends {noted} y ran = go (r .ending) (ran .ends)
+module _ {f m₀ m : List ℕ} {question : ℕ} {conditions : Conditions} {budget : ℕ} {r : Searched} where
+  pub noted-ends : Linked f (length f - 4) m₀ 0 → Ran f m₀ m question conditions budget r → Ends (r .ending) f m question conditions budget r
+  noted-ends linked ran = go (r .ending) (ran .ends)
     where
-      go : (e : Ending) → RanBy e f m question conditions noted budget r → Ends e f m question conditions budget r
+      few : countAt m₀ ≤ mostNoted
+      few = omega (arith, linked .indexed .count, linked .indexed .most)
+
+      go : (e : Ending) → RanBy e f m₀ m question conditions budget r → Ends e f m question conditions budget r
       go Found h = h
       go Nothing h = h
-      go Out h = h .0 (h .1 y)
+      go Out h = h .0 (h .1 few)
 
 -- the tries of a search by scans
 module _ (body budget : ℕ) where
@@ -186,7 +191,7 @@ module _ (left most budget : ℕ) where
   settled-out z n = rw (z, eq-eqb left 0 n)
 
 -- a search with fewer tries that is settled is the search with the whole budget
-module _ {f m : List ℕ} {question : ℕ} {conditions : Conditions} {most budget : ℕ} {first : Searched} (ran : Ran f m question conditions false most first)
+module _ {f m₀ m : List ℕ} {question : ℕ} {conditions : Conditions} {most budget : ℕ} {first : Searched} (ran : Ran f m₀ m question conditions most first)
     (within : most ≤ budget) (so : settledBy (first .ending) (first .left) most budget ≡ true) where
   abbrev whole : Searched
   whole = record { ending = first .ending; left = first .left + (budget - most); steps = first .steps }
@@ -201,7 +206,7 @@ module _ {f m : List ℕ} {question : ℕ} {conditions : Conditions} {most budge
   unfolding settledBy
   settled-ends = go (first .ending) so (ran .ends)
     where
-      go : (e : Ending) → settledBy e (first .left) most budget ≡ true → RanBy e f m question conditions false most first → Ends e f m question conditions budget whole
+      go : (e : Ending) → settledBy e (first .left) most budget ≡ true → RanBy e f m₀ m question conditions most first → Ends e f m question conditions budget whole
       go Found s h =
           record {
             proof = h .proof;
@@ -218,3 +223,7 @@ module _ {f m : List ℕ} {question : ℕ} {conditions : Conditions} {most budge
       go Out s h =
           let both = and-eq-true-iff (eqb (first .left) 0) (eqb most budget) .0 s in
           rw (← eqb-true most budget (both .1)) (h .0 (eqb-true (first .left) 0 (both .0)))
+
+-- where nothing is noted, no link is asked for
+pub nothing-noted : (f m : List ℕ) → length m ≡ workWords → LinkedFor f (set m notedPlace 4096)
+nothing-noted f m size few = absurd (omega (arith, getD-set-same m notedPlace 4096 0 (omega (arith, size))))

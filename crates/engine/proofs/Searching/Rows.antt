@@ -1,8 +1,7 @@
 -- Candidates tried in turn: how far a loop over them has come, and how it ends, against what the rules say of the row.
 use mathlib.Core.Path.{_≡_, refl, sym, ap, _∙_}
-use mathlib.Core.Bool.{false}
 use mathlib.Core.List.{List, [], _∷_, _++_}
-use Prim.Native.Nat.{ℕ, zero, suc, _+_, _-_, _≤_}
+use Prim.Native.Nat.{ℕ, zero, suc, _+_, _-_, _≤_, _<_}
 use native.Mathlib.Omega.{arith}
 use lib.ListN.{length}
 use Rattle.words.specs.declared.Step.{Step}
@@ -17,8 +16,10 @@ use Rattle.engine.specs.declared.search.Move.{Move}
 use Rattle.engine.specs.declared.search.Searched.{Searched}
 use Rattle.engine.specs.declared.search.Task.{Task}
 use Rattle.tableaux.specs.declared.tableau.Place.{Place}
+use Rattle.index.specs.Places.{mostNoted}
+use Rattle.index.specs.Noting.{countAt}
 use Rattle.index.proofs.Linking.{linked-same}
-use Rattle.engine.proofs.Searching.Again.{open-stays, ready-again, stands-again, again-none, again-then}
+use Rattle.engine.proofs.Searching.Again.{count-kept, open-stays, ready-again, stands-again, again-none, again-then}
 use Rattle.engine.proofs.Searching.Attempts.{tell-nothing}
 
 -- a row, and another after it
@@ -58,7 +59,7 @@ pub tells-by : (f m′ : List ℕ) (task : Task) (place : Place) (r : Searched) 
     → other ≡ result → Tells e f m′ task place r p result → Tells e f m′ task place r p other
 tells-by f m′ task place r p Found same h = finds-by same h
 tells-by f m′ task place r p Nothing same h = same ∙ h
-tells-by f m′ task place r p Out same h = (λ z. same ∙ h .0 z, h .1)
+tells-by f m′ task place r p Out same h = λ z. same ∙ h z
 
 -- the room at a place is again what it was
 pub room-again : {f m m′ : List ℕ} {place : Place} (task : Task) → Ready f m place → Again f m m′ place → roomAt f m′ task place ≡ roomAt f m task place
@@ -71,7 +72,7 @@ treats-again treats again =
     record {
       asked = treats .asked;
       ready = ready-again (treats .ready) again;
-      linked = λ noted. linked-same (again .good .size) (again .later .notes) (treats .linked noted);
+      linked = λ few. linked-same (again .good .size) (again .later .notes) (treats .linked (omega (arith, few, count-kept (again .later))));
     }
 
 -- so far the candidates up to the rest have failed
@@ -109,20 +110,35 @@ module _ {f m₀ : List ℕ} {task : Task} {place : Place} (treats : Treats f m�
     rowing-out {step} {rest} rowing z e =
         rw e
         (record {
-          leaves = tt;
+          leaves = λ few. z;
           within = rowing .within;
-          tells = λ p stands depth enough. (λ y. rowing .same p stands depth enough ∙ row-no-budget (plays (settingAt f task)) depth left p step rest z, λ y. z);
+          tells = λ p stands depth enough y. rowing .same p stands depth enough ∙ row-no-budget (plays (settingAt f task)) depth left p step rest z;
         })
 
+    -- the rest of the row ends it
+    pub rowing-then : {rest : List Step} → Rowing f m₀ m task place tries left all rest → {m′ : List ℕ} {r : Searched} → Rowed f m m′ task place left r rest → Rowed f m₀ m′ task place tries r all
+    rowing-then rowing {m′} {r} rowed =
+        record {
+          leaves = go (r .ending) (rowed .leaves);
+          within = omega (arith, rowed .within, rowing .within);
+          tells = λ p stands depth enough. tells-by f m′ task place r p (r .ending) (rowing .same p stands depth enough)
+              (rowed .tells p (stands-again (treats .ready) (rowing .again) p stands) depth (omega (arith, room-again task (treats .ready) (rowing .again))));
+        }
+      where
+        go : (e : Ending) → Leaves e f m m′ place r → Leaves e f m₀ m′ place r
+        go Found l = record { good = l .good; earlier = λ i h. l .earlier i h ∙ rowing .again .later .steps i h; marks = λ v h. l .marks v h ∙ rowing .again .later .marks v h }
+        go Nothing l = again-then (rowing .again) l
+        go Out l = λ few. l (omega (arith, few, count-kept (rowing .again .later)))
+
     -- a search by scans is given up
-    pub rowing-given-up : {rest : List Step} → Rowing f m₀ m task place tries left all rest → task .noted ≡ false → (left ≡ 0 → ⊥)
+    pub rowing-given-up : {rest : List Step} → Rowing f m₀ m task place tries left all rest → mostNoted < countAt m₀ → (left ≡ 0 → ⊥)
         → {r : Searched} → r ≡ without Out left → Rowed f m₀ m task place tries r all
     rowing-given-up rowing scans some e =
         rw e
         (record {
-          leaves = tt;
+          leaves = λ few. absurd (omega arith);
           within = rowing .within;
-          tells = λ p stands depth enough. (λ z. absurd (some z), λ noted. let y : _≡_ {A = ℕ} 0 1 = cc in absurd (omega arith));
+          tells = λ p stands depth enough z. absurd (some z);
         })
 
     module _ (candidate : Move) {rest : List Step} (rowing : Rowing f m₀ m task place tries left all (stepBy candidate ∷ rest)) (some : left ≡ 0 → ⊥)
@@ -147,14 +163,14 @@ module _ {f m₀ : List ℕ} {task : Task} {place : Place} (treats : Treats f m�
           left-so : (e : Ending) → (e ≡ Nothing → ⊥) → Leaves e f m m′ place r → Leaves e f m₀ m′ place r
           left-so Found s l = record { good = l .good; earlier = λ i h. l .earlier i h ∙ rowing .again .later .steps i h; marks = λ v h. l .marks v h ∙ rowing .again .later .marks v h }
           left-so Nothing s l = absurd (s refl)
-          left-so Out s l = tt
+          left-so Out s l = λ few. l (omega (arith, few, count-kept (rowing .again .later)))
 
           told : (e : Ending) (p : Play) (depth : ℕ) → (e ≡ Nothing → ⊥) → Tells e f m′ task place r p (one (plays (settingAt f task)) depth (left - 1) p (stepBy candidate))
               → rowed depth p ≡ row (plays (settingAt f task)) depth left p (stepBy candidate ∷ rest) → Tells e f m′ task place r p (rowed depth p)
           told Found p depth s h same =
               finds-by (same ∙ row-found (plays (settingAt f task)) depth left p (stepBy candidate) rest (h .path) (r .left) (omega arith) (h .says) ∙ sym (h .says)) h
           told Nothing p depth s h same = absurd (s refl)
-          told Out p depth s h same = (λ z. same ∙ row-runs-out (plays (settingAt f task)) depth left p (stepBy candidate) rest (omega arith) (h .0 z), h .1)
+          told Out p depth s h same = λ z. same ∙ row-runs-out (plays (settingAt f task)) depth left p (stepBy candidate) rest (omega arith) (h z)
 
       module _ (none : r .ending ≡ Nothing) where
         pub rowing-on : Rowing f m₀ m′ task place tries (r .left) all rest

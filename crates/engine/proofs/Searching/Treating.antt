@@ -39,14 +39,14 @@ use Rattle.engine.specs.declared.search.Searched.{Searched}
 use Rattle.engine.specs.declared.search.Task.{Task}
 use Rattle.tableaux.specs.declared.tableau.Place.{Place}
 use Rattle.tableaux.proofs.Chains.{chain-none}
-use Rattle.index.specs.Noting.{keysIn, scansIn, linkAt, firstFrom, Unpacks, unpacked, Linked}
+use Rattle.index.specs.Noting.{keysIn, scansIn, countAt, linkAt, firstFrom, Unpacks, unpacked, Linked}
 use Rattle.index.proofs.Scans.{past-at, standing-begin, standing-past, body-length, body-word}
 use Rattle.index.proofs.Linking.{linked-same}
 use Rattle.index.proofs.Reached.{Leads, leads-first, all-ahead, lead-low, lead-unpacks, leads-next, lead-less, lead-ahead, lead-stands, lead-inside, lead-word, ahead-none}
 use Rattle.engine.proofs.Literals.Entries.{extensions-begin, scan-enters}
 use Rattle.engine.proofs.Literals.Fitting.{other-kind}
 use Rattle.engine.proofs.Performed.{open-first, Literate, literate-sign, stands-literate, stands-inside}
-use Rattle.engine.proofs.Searching.Again.{ready-again, stands-again, again-then, counted-again}
+use Rattle.engine.proofs.Searching.Again.{count-kept, ready-again, stands-again, again-then, counted-again}
 use Rattle.engine.proofs.Searching.Attempts.{nothing-told}
 use Rattle.engine.proofs.Searching.Climbs.{leaf-stays, leaf-word-stays}
 use Rattle.engine.proofs.Profiles.{one-of, other-of}
@@ -156,7 +156,7 @@ module _ {f m : List ℕ} {task : Task} {place : Place} (treats : Treats f m tas
               → Tells e f m₁ task place r p (search (plays (settingAt f task)) (suc depth) left p)
           go Found p depth s h others same = tells-by f m₁ task place r p Found (same ∙ ap (λ (a : Result Step). after a others) (h .says) ∙ sym (h .says)) h
           go Nothing p depth s h others same = absurd (s refl)
-          go Out p depth s h others same = (λ z. same ∙ ap (λ (a : Result Step). after a others) (h .0 z), h .1)
+          go Out p depth s h others same = λ z. same ∙ ap (λ (a : Result Step). after a others) (h z)
 
       module _ (nothing : r .ending ≡ Nothing) where
         back : Again f m m₁ place
@@ -193,7 +193,7 @@ module _ {f m : List ℕ} {task : Task} {place : Place} (treats : Treats f m tas
             go : (e : Ending) → Leaves e f m₁ m₂ place r₂ → Leaves e f m m₂ place r₂
             go Found l = record { good = l .good; earlier = λ i h. l .earlier i h ∙ back .later .steps i h; marks = λ v h. l .marks v h ∙ back .later .marks v h }
             go Nothing l = again-then back l
-            go Out l = tt
+            go Out l = λ few. l (omega (arith, few, count-kept (back .later)))
 
     -- after the reductions
     module _ {word : ℕ} (ew : word ≡ wordAt f m (leafOf m place)) where
@@ -248,20 +248,26 @@ module _ {f m : List ℕ} {task : Task} {place : Place} (treats : Treats f m tas
           sym (rw (wants, ← l .word)
           (extensions-begin f (task .body) (treats .asked .fits) (treats .asked .readable) body-small {v = variablesOf (getD f (startAt m (leafOf m place / 256)) 0)} (wordsAt f m (leafOf m place)) (rw (l .word) (l .shaped)) (rw (l .word) (treats .asked .small _)) (rw (l .word) (l .owing)) (fresh (leafOf m place / 256)) (copiesOf m)))
 
+      pub wanted-again : {m₁ : List ℕ} → Again f m m₁ place → Wanted f m₁ place wanted
+      wanted-again again = wants ∙ ap otherSign (sym (leaf-word-stays (treats .ready) some-open (again .later)))
+
+      pub extends-again : {m₁ : List ℕ} → Again f m m₁ place → extendsAt f m₁ task place ≡ true
+      extends-again again = ap (λ (l : Leaf). settingAt f task .profile .extends (l .literal .negative)) (leaf-stays (treats .ready) some-open (again .later)) ∙ may
+
       allowed : {m₁ : List ℕ} → Again f m m₁ place → {entry : Scan} → Standing (take (task .body) f) entry → entry .at < task .body → getD f (entry .at) 0 ≡ wanted → Allows f m₁ task place (Enter entry)
       allowed again stands inside word = (
         scan-enters f (task .body) (treats .asked .fits) (treats .asked .readable) stands inside (ap (λ (w : ℕ). kindOf w) word ∙ kind),
-        word ∙ wants ∙ ap otherSign (sym (leaf-word-stays (treats .ready) some-open (again .later))),
+        word ∙ wanted-again again,
         omega (arith, again .copies),
-        ap (λ (l : Leaf). settingAt f task .profile .extends (l .literal .negative)) (leaf-stays (treats .ready) some-open (again .later)) ∙ may,
+        extends-again again,
       )
 
       -- by a scan
       pub scan-begin : {scan : Scan} → scan ≡ begun → Standing (take (task .body) f) scan
       scan-begin e = rw e (standing-begin (take (task .body) f))
 
-      pub scan-row : {scan : Scan} → scan ≡ begun → (tries : ℕ) → Rowing f m m task place tries tries (extensionsAt f m task place) (extensionsFrom f task wanted scan)
-      scan-row e tries = rw e (rowing-by treats all-entries (rowing-begin treats tries (extensionsAt f m task place)))
+      pub scan-all : {scan : Scan} → scan ≡ begun → {tries : ℕ} {m₁ : List ℕ} {r : Searched} → Rowed f m m₁ task place tries r (extensionsFrom f task wanted scan) → Rowed f m m₁ task place tries r (extensionsAt f m task place)
+      scan-all e rowed = rw all-entries (rw e at rowed)
 
       module _ {m₁ : List ℕ} {tries left : ℕ} {all : List Step} (scan : Scan) (standing : Standing (take (task .body) f) scan) (rowing : Rowing f m m₁ task place tries left all (extensionsFrom f task wanted scan)) where
         pub scan-asks : (length m₁ ≡ workWords) × (task .body ≤ length f) × (task .body ≤ 16000) × (kindOf wanted ≡ 2) × Standing (take (task .body) f) scan
@@ -311,7 +317,7 @@ module _ {f m : List ℕ} {task : Task} {place : Place} (treats : Treats f m tas
                   scan-kept
 
       -- by the notes of the literals
-      module _ (noted : task .noted ≡ true) where
+      module _ (noted : countAt m ≤ mostNoted) where
         linked : Linked f (task .body) m 0
         linked = treats .linked noted
 

@@ -5,7 +5,6 @@ use borrow.Author.Tests.{not-true, not-false}
 use borrow.Fn.Kinds.{In}
 use borrow.Fn.PlainCycle.{Measures, is, falls, and}
 use denote.Enum.Declared.{tagOf, declared}
-use lib.ListN.{take}
 use mathlib.Core.Logic.{_⊎_, inl, inr}
 use mathlib.Core.Path.{_≡_, refl, sym, _∙_}
 use native.Mathlib.Omega.{arith}
@@ -18,12 +17,13 @@ use Rattle.unification.specs.declared.unify.Meeting.{Meeting}
 use Rattle.unification.specs.declared.unify.Meeting.the-variants.{Made, Clash, Circle}
 use Rattle.engine.proofs.search.Ending.{enum as ending}
 use Rattle.unification.proofs.unify.Meeting.{enum as meeting}
-use Rattle.engine.proofs.Searching.Rows.{room-again, treats-again, Rowing, rowing-by, rowing-out, rowing-given-up, rowing-ended, rowing-on}
+use Rattle.engine.proofs.Searching.Rows.{room-again, treats-again, Rowing, rowing-begin, rowing-by, rowing-out, rowing-then, rowing-given-up, rowing-ended, rowing-on}
+use Rattle.engine.proofs.Searching.Again.{count-kept}
 use Rattle.engine.proofs.Searching.Attempts.{attempt-restores, attempt-failed, attempt-treats, attempt-falls, attempt-ended, attempt-good-below, attempt-restores-below, attempt-none}
 use Rattle.engine.proofs.Nowhere.Seen.{symbol-asked, seen-parted, opening-again, rowing-vain}
 use Rattle.engine.proofs.Searching.Scanned.{given-up-some}
 use Rattle.engine.proofs.Searching.Climbs.{Climbing, climbs, climb-begin, climb-row, climb-end, climb-small, climb-few, climb-falls, climb-inside, climb-on, climb-past, climb-at, climb-against}
-use Rattle.engine.proofs.Searching.Treating.{treat-closed, treat-small, treat-inside, treat-wanted, treat-ended, treat-again, treat-room, treat-word-again, treat-further, further-wanted, further-used, further-extends, further-extended, further-allows, further-out, further-restarted, scan-begin, scan-row, scan-asks, scan-again, scan-end, scan-allows, scan-small, scan-stands, scan-less, scan-next, link-begin, link-row, link-end, link-low, link-unpacks, link-leads, link-less, link-next, link-allows}
+use Rattle.engine.proofs.Searching.Treating.{treat-closed, treat-small, treat-inside, treat-wanted, treat-ended, treat-again, treat-room, treat-word-again, treat-further, further-wanted, further-used, further-extends, further-extended, further-allows, further-out, further-restarted, scan-begin, scan-all, wanted-again, extends-again, scan-asks, scan-again, scan-end, scan-allows, scan-small, scan-stands, scan-less, scan-next, link-begin, link-row, link-end, link-low, link-unpacks, link-leads, link-less, link-next, link-allows}
 use Rattle.engine.proofs.search.attempt.Reads as attempt
 use Rattle.engine.proofs.search.attempt.Kinds as attempt-kinds
 use Rattle.engine.proofs.search.+attempt+extensions+extensions_by_scan+further+reductions+treat.Lts-attempt as attempt-lts
@@ -49,7 +49,6 @@ use Rattle.index.proofs.entries.past.Reads as past
 use Rattle.index.proofs.links.first.Reads as first
 use Rattle.index.proofs.links.next.Reads as next
 use Rattle.index.proofs.notes.unpacked.Reads as unpacked
-use Rattle.index.specs.Scanning.{Standing}
 use Rattle.index.proofs.Reached.{Leads}
 use Rattle.unification.proofs.memory.word_at.Reads as word-at
 use Rattle.engine.proofs.search.in_vain.Reads as in-vain
@@ -66,22 +65,22 @@ use Rattle.engine.proofs.search.+attempt+extensions+extensions_by_scan+
 use Rattle.engine.proofs.search.+attempt+extensions+extensions_by_scan+further+reductions+treat.Tie.{close}
 
 abbrev μ-attempt : Measures 2 attempt-kinds.ps ℕ
-μ-attempt κs a = 5 * roomAt (a .0 .now) (a .1 .0 .now) (a .1 .1 .0) (a .1 .1 .1 .0) + 1
+μ-attempt κs a = 40000 * roomAt (a .0 .now) (a .1 .0 .now) (a .1 .1 .0) (a .1 .1 .1 .0) + 1
 
 abbrev μ-extensions : Measures 2 extensions-kinds.ps ℕ
-μ-extensions κs a = 5 * roomAt (a .0 .now) (a .1 .0 .now) (a .1 .1 .0) (a .1 .1 .1 .0) + 2
+μ-extensions κs a = 40000 * roomAt (a .0 .now) (a .1 .0 .now) (a .1 .1 .0) (a .1 .1 .1 .0) + 2
 
 abbrev μ-by-scan : Measures 2 by-scan-kinds.ps ℕ
-μ-by-scan κs a = 5 * roomAt (a .0 .now) (a .1 .0 .now) (a .1 .1 .0) (a .1 .1 .1 .0) + 2
+μ-by-scan κs a = 40000 * roomAt (a .0 .now) (a .1 .0 .now) (a .1 .1 .0) (a .1 .1 .1 .0) + 2 + (a .1 .1 .0 .body - a .1 .1 .1 .1 .1 .0 .at)
 
 abbrev μ-further : Measures 2 further-kinds.ps ℕ
-μ-further κs a = 5 * roomAt (a .0 .now) (a .1 .0 .now) (a .1 .1 .0) (a .1 .1 .1 .0) + 3
+μ-further κs a = 40000 * roomAt (a .0 .now) (a .1 .0 .now) (a .1 .1 .0) (a .1 .1 .1 .0) + 20000
 
 abbrev μ-reductions : Measures 2 reductions-kinds.ps ℕ
-μ-reductions κs a = 5 * roomAt (a .0 .now) (a .1 .0 .now) (a .1 .1 .0) (a .1 .1 .1 .0) + 2
+μ-reductions κs a = 40000 * roomAt (a .0 .now) (a .1 .0 .now) (a .1 .1 .0) (a .1 .1 .1 .0) + 2
 
 abbrev μ-treat : Measures 2 treat-kinds.ps ℕ
-μ-treat κs a = 5 * roomAt (a .0 .now) (a .1 .0 .now) (a .1 .1 .0) (a .1 .1 .1 .0) + 4
+μ-treat κs a = 40000 * roomAt (a .0 .now) (a .1 .0 .now) (a .1 .1 .0) (a .1 .1 .1 .0) + 20001
 
 abbrev attempt-at : ℕ → In 2 attempt-kinds.ps
 attempt-at t = and 2 attempt-kinds.ps (is 2 attempt-kinds.ps μ-attempt t) attempt.Pre
@@ -128,7 +127,7 @@ told-extensions t =
 
 abbrev told-by-scan : ℕ → by-scan-lts.Claims
 told-by-scan t =
-    (literal-of.Asked, literal-of.Learnt, first-symbol.Asked, first-symbol.Learnt, beginning.Asked, beginning.Learnt, given-up.Asked, given-up.Learnt, without.Asked, without.Learnt, sought.Asked, sought.Learnt, past.Asked, past.Learnt, in-vain.Asked, in-vain.Learnt, attempt-below t, attempt.Post)
+    (given-up.Asked, given-up.Learnt, without.Asked, without.Learnt, sought.Asked, sought.Learnt, attempt-below t, attempt.Post, past.Asked, past.Learnt, by-scan-below t, by-scan.Post)
 
 abbrev told-reductions : ℕ → reductions-lts.Claims
 told-reductions t =
@@ -140,7 +139,7 @@ told-treat t =
 
 abbrev told-further : ℕ → further-lts.Claims
 told-further t =
-    (without.Asked, without.Learnt, restarting.Asked, restarting.Learnt, other-sign.Asked, other-sign.Learnt, extensions-below t, extensions.Post, by-scan-below t, by-scan.Post, attempt-below t, attempt.Post)
+    (without.Asked, without.Learnt, restarting.Asked, restarting.Learnt, other-sign.Asked, other-sign.Learnt, extensions-below t, extensions.Post, beginning.Asked, beginning.Learnt, by-scan-below t, by-scan.Post, attempt-below t, attempt.Post)
 
 abbrev Inv-extensions : extensions-lts.InvT-loop
 Inv-extensions file work₀ task place wanted tries symbol link₀ left₀ work link left =
@@ -149,14 +148,6 @@ Inv-extensions file work₀ task place wanted tries symbol link₀ left₀ work 
 
 abbrev μ-link : extensions-lts.MeasureT-loop
 μ-link file work₀ task place wanted tries symbol link₀ left₀ work link left = (4096 - link) % 4096
-
-abbrev Inv-by-scan : by-scan-lts.InvT-loop
-Inv-by-scan file work₀ task place wanted tries symbol scan₀ left₀ work scan left =
-    Standing (take (task .body) file) scan
-    × Rowing file work₀ work task place tries left (extensionsAt file work₀ task place) (extensionsFrom file task wanted scan)
-
-abbrev μ-scan : by-scan-lts.MeasureT-loop
-μ-scan file work₀ task place wanted tries symbol scan₀ left₀ work scan left = task .body - scan .at
 
 abbrev Inv-reductions : reductions-lts.InvT-loop
 Inv-reductions file work₀ task place wanted tries ancestor₀ height₀ left₀ work ancestor height left =
@@ -241,37 +232,28 @@ pub +attempt+extensions+extensions-by-scan+further+reductions+treat-spec : {M : 
     (told-by-scan t)
     (by-scan-at t)
     by-scan.Post
-    Inv-by-scan
-    μ-scan
-    (λ c κs. let s = c .before .before .before in treat-small (s .pre .1 .0) (s .pre .1 .1))
-    (λ c κs. let s = c .before .before .before .before in symbol-asked (s .pre .1 .0) (s .pre .1 .1) (c .literal-of .ensures))
+    (λ c κs. c .before .before .before .pre .1 .0 .ready .good .size)
     (λ c κs. search needs)
-    (λ c. let s = c .before .before .before .before .before .before in (scan-begin (s .pre .1 .0) (s .pre .1 .1) (s .pre .1 .3) (s .pre .1 .4) (s .pre .1 .2) (c .beginning .ensures), scan-row (s .pre .1 .0) (s .pre .1 .1) (s .pre .1 .3) (s .pre .1 .4) (s .pre .1 .2) (c .beginning .ensures) (s .args .tries)))
-    (λ c κs. c .before .loop .inv .1 .again .good .size)
-    (λ c κs. search needs)
-    (λ c. let s = c .before .before .before .before .before .before .before .before .before .before .before in let l = c .before .before .before .before .loop in l .inv .1 .again .good .size ∙ sym (s .pre .1 .0 .ready .good .size))
-    (λ c. let s = c .before .before .before .before .before .before .before .before .before .before .before in let l = c .before .before .before .before .loop in rowing-given-up (s .pre .1 .0) (l .inv .1) (s .pre .1 .5) (given-up-some _ _ _ (c .before .before .given-up .ensures) (c .before .if1 .taken)) (c .without .ensures))
-    (λ c κs. let s = c .before .before .before .before .before .before .before .before .before .before .before in let l = c .before .before .before .before .loop in scan-asks (s .pre .1 .0) (s .pre .1 .1) (s .pre .1 .3) (s .pre .1 .4) (s .pre .1 .2) (l .scan) (l .inv .0) (l .inv .1))
+    (λ c. search needs)
+    (λ c. let s = c .before .before .before .before .before .before in rowing-given-up (s .pre .1 .0) (rowing-begin (s .pre .1 .0) (s .args .tries) (extensionsFrom (s .args .file .now) (s .args .task) (s .args .wanted) (s .args .from))) (s .pre .1 .5) (given-up-some _ _ _ (c .before .before .given-up .ensures) (c .before .if1 .taken)) (c .without .ensures))
+    (λ c κs. let s = c .before .before .before .before .before .before in scan-asks (s .pre .1 .0) (s .pre .1 .1) (s .pre .1 .3) (s .pre .1 .4) (s .pre .1 .2) (s .args .from) (s .pre .1 .6) (rowing-begin (s .pre .1 .0) (s .args .tries) (extensionsFrom (s .args .file .now) (s .args .task) (s .args .wanted) (s .args .from))))
     (λ c. search needs)
     (λ c. search needs)
     (λ c κs. search needs)
-    (λ c. let s = c .before .before .before .before .before .before .before .before .before .before .before .before .before .before .before .before .before in let l = c .before .before .before .before .before .before .before .before .before .before .loop in let k = c .before .before .before .before .before .sought in scan-again (s .pre .1 .0) (s .pre .1 .1) (s .pre .1 .3) (s .pre .1 .4) (s .pre .1 .2) (l .scan) (l .inv .0) (l .inv .1) (k .result) (k .ensures) .good .size ∙ sym (s .pre .1 .0 .ready .good .size))
-    (λ c. let s = c .before .before .before .before .before .before .before .before .before .before .before .before .before .before .before .before .before in let l = c .before .before .before .before .before .before .before .before .before .before .loop in let k = c .before .before .before .before .before .sought in scan-end (s .pre .1 .0) (s .pre .1 .1) (s .pre .1 .3) (s .pre .1 .4) (s .pre .1 .2) (l .scan) (l .inv .0) (l .inv .1) (k .result) (k .ensures) (c .before .enum-told .given .1) (c .without2 .ensures))
+    (λ c. let s = c .before .before .before .before .before .before .before .before .before .before .before .before in let k = c .before .before .before .before .before .sought in scan-again (s .pre .1 .0) (s .pre .1 .1) (s .pre .1 .3) (s .pre .1 .4) (s .pre .1 .2) (s .args .from) (s .pre .1 .6) (rowing-begin (s .pre .1 .0) (s .args .tries) (extensionsFrom (s .args .file .now) (s .args .task) (s .args .wanted) (s .args .from))) (k .result) (k .ensures) .good .size ∙ sym (s .pre .1 .0 .ready .good .size))
+    (λ c. let s = c .before .before .before .before .before .before .before .before .before .before .before .before in let k = c .before .before .before .before .before .sought in scan-end (s .pre .1 .0) (s .pre .1 .1) (s .pre .1 .3) (s .pre .1 .4) (s .pre .1 .2) (s .args .from) (s .pre .1 .6) (rowing-begin (s .pre .1 .0) (s .args .tries) (extensionsFrom (s .args .file .now) (s .args .task) (s .args .wanted) (s .args .from))) (k .result) (k .ensures) (c .before .enum-told .given .1) (c .without2 .ensures))
     (λ c κs. search needs)
-    (λ c. let s = c .before .before .before .before .before .before .before .before .before .before .before .before .before .before .before .before .before .before .before in let l = c .before .before .before .before .before .before .before .before .before .before .before .before .loop in let k = c .before .before .before .before .before .before .before .sought in scan-again (s .pre .1 .0) (s .pre .1 .1) (s .pre .1 .3) (s .pre .1 .4) (s .pre .1 .2) (l .scan) (l .inv .0) (l .inv .1) (k .result) (k .ensures) .good .size ∙ sym (s .pre .1 .0 .ready .good .size))
-    (λ c. let s = c .before .before .before .before .before .before .before .before .before .before .before .before .before .before .before .before .before .before .before in let l = c .before .before .before .before .before .before .before .before .before .before .before .before .loop in let k = c .before .before .before .before .before .before .before .sought in let e = c .before .before .before .candidate .given in rowing-out (s .pre .1 .0) (scan-next (s .pre .1 .0) (s .pre .1 .1) (s .pre .1 .3) (s .pre .1 .4) (s .pre .1 .2) (l .scan) (l .inv .0) (l .inv .1) (k .result) (k .ensures) (e .1) refl) (c .before .if2 .taken) (c .without3 .ensures))
-    (λ c κs. let s = c .before .before .before .before .before .before .before .before .before .before .before .before .before .before .before .before .before .before in let l = c .before .before .before .before .before .before .before .before .before .before .before .loop in let k = c .before .before .before .before .before .before .sought in let e = c .before .before .candidate .given in scan-small (s .pre .1 .0) (s .pre .1 .1) (s .pre .1 .3) (s .pre .1 .4) (s .pre .1 .2) (l .scan) (l .inv .0) (l .inv .1) (k .result) (k .ensures) (e .1))
-    (λ c κs. let s = c .before .before .before .before .before .before .before .before .before .before .before .before .before .before .before .before .before .before .before .before in let l = c .before .before .before .before .before .before .before .before .before .before .before .before .before .loop in let k = c .before .before .before .before .before .before .before .before .sought in let e = c .before .before .before .before .candidate .given in (treats-again (s .pre .1 .0) (scan-again (s .pre .1 .0) (s .pre .1 .1) (s .pre .1 .3) (s .pre .1 .4) (s .pre .1 .2) (l .scan) (l .inv .0) (l .inv .1) (k .result) (k .ensures)), s .pre .1 .1, scan-allows (s .pre .1 .0) (s .pre .1 .1) (s .pre .1 .3) (s .pre .1 .4) (s .pre .1 .2) (l .scan) (l .inv .0) (l .inv .1) (k .result) (k .ensures) (e .1), opening-again (s .pre .1 .0) (s .pre .1 .1) (c .before .before .before .before .before .before .before .before .before .before .before .before .before .before .before .before .literal-of .ensures) (c .before .before .before .before .before .before .before .before .before .before .before .before .before .before .before .first-symbol .ensures) (scan-again (s .pre .1 .0) (s .pre .1 .1) (s .pre .1 .3) (s .pre .1 .4) (s .pre .1 .2) (l .scan) (l .inv .0) (l .inv .1) (k .result) (k .ensures))))
-    (λ c. omega arith)
-    (λ c. let s = c .before .before .before .before .before .before .before .before .before .before .before .before .before .before .before .before .before .before .before .before .before .before in let l = c .before .before .before .before .before .before .before .before .before .before .before .before .before .before .before .loop in let k = c .before .before .before .before .before .before .before .before .before .before .sought in let e = c .before .before .before .before .before .before .candidate .given in scan-less (s .pre .1 .0) (s .pre .1 .1) (s .pre .1 .3) (s .pre .1 .4) (s .pre .1 .2) (l .scan) (l .inv .0) (l .inv .1) (k .result) (k .ensures) (e .1) (c .before .before .before .past .ensures))
-    (λ c. let s = c .before .before .before .before .before .before .before .before .before .before .before .before .before .before .before .before .before .before .before .before .before .before in let l = c .before .before .before .before .before .before .before .before .before .before .before .before .before .before .before .loop in let k = c .before .before .before .before .before .before .before .before .before .before .sought in let e = c .before .before .before .before .before .before .candidate .given in (scan-stands (s .pre .1 .0) (s .pre .1 .1) (s .pre .1 .3) (s .pre .1 .4) (s .pre .1 .2) (l .scan) (l .inv .0) (l .inv .1) (k .result) (k .ensures) (e .1) (c .before .before .before .past .ensures), rowing-vain (s .pre .1 .0) (s .pre .1 .1) (Enter (e .0 .0)) (scan-next (s .pre .1 .0) (s .pre .1 .1) (s .pre .1 .3) (s .pre .1 .4) (s .pre .1 .2) (l .scan) (l .inv .0) (l .inv .1) (k .result) (k .ensures) (e .1) (c .before .before .before .past .ensures)) (c .before .before .before .before .if2 .left) (c .before .in-vain .ensures (c .if3 .taken))))
-    (λ c. omega arith)
-    (λ c κs. let s = c .before .before .before .before .before .before .before .before .before .before .before .before .before .before .before .before .before .before .before .before .before .before .before in let l = c .before .before .before .before .before .before .before .before .before .before .before .before .before .before .before .before .loop in let k = c .before .before .before .before .before .before .before .before .before .before .before .sought in let e = c .before .before .before .before .before .before .before .candidate .given in (omega (arith, room-again (s .args .task) (s .pre .1 .0 .ready) (scan-again (s .pre .1 .0) (s .pre .1 .1) (s .pre .1 .3) (s .pre .1 .4) (s .pre .1 .2) (l .scan) (l .inv .0) (l .inv .1) (k .result) (k .ensures)), s .pre .0), (treats-again (s .pre .1 .0) (scan-again (s .pre .1 .0) (s .pre .1 .1) (s .pre .1 .3) (s .pre .1 .4) (s .pre .1 .2) (l .scan) (l .inv .0) (l .inv .1) (k .result) (k .ensures)), s .pre .1 .1, scan-allows (s .pre .1 .0) (s .pre .1 .1) (s .pre .1 .3) (s .pre .1 .4) (s .pre .1 .2) (l .scan) (l .inv .0) (l .inv .1) (k .result) (k .ensures) (e .1))))
+    (λ c. let s = c .before .before .before .before .before .before .before .before .before .before .before .before .before .before in let k = c .before .before .before .before .before .before .before .sought in scan-again (s .pre .1 .0) (s .pre .1 .1) (s .pre .1 .3) (s .pre .1 .4) (s .pre .1 .2) (s .args .from) (s .pre .1 .6) (rowing-begin (s .pre .1 .0) (s .args .tries) (extensionsFrom (s .args .file .now) (s .args .task) (s .args .wanted) (s .args .from))) (k .result) (k .ensures) .good .size ∙ sym (s .pre .1 .0 .ready .good .size))
+    (λ c. let s = c .before .before .before .before .before .before .before .before .before .before .before .before .before .before in let k = c .before .before .before .before .before .before .before .sought in let e = c .before .before .before .candidate .given in rowing-out (s .pre .1 .0) (scan-next (s .pre .1 .0) (s .pre .1 .1) (s .pre .1 .3) (s .pre .1 .4) (s .pre .1 .2) (s .args .from) (s .pre .1 .6) (rowing-begin (s .pre .1 .0) (s .args .tries) (extensionsFrom (s .args .file .now) (s .args .task) (s .args .wanted) (s .args .from))) (k .result) (k .ensures) (e .1) refl) (c .before .if2 .taken) (c .without3 .ensures))
+    (λ c. omega (arith, c .before .if2 .left))
+    (λ c κs. let s = c .before .before .before .before .before .before .before .before .before .before .before .before .before .before in let k = c .before .before .before .before .before .before .before .sought in let e = c .before .before .before .candidate .given in (omega (arith, room-again (s .args .task) (s .pre .1 .0 .ready) (scan-again (s .pre .1 .0) (s .pre .1 .1) (s .pre .1 .3) (s .pre .1 .4) (s .pre .1 .2) (s .args .from) (s .pre .1 .6) (rowing-begin (s .pre .1 .0) (s .args .tries) (extensionsFrom (s .args .file .now) (s .args .task) (s .args .wanted) (s .args .from))) (k .result) (k .ensures)), s .pre .0), (treats-again (s .pre .1 .0) (scan-again (s .pre .1 .0) (s .pre .1 .1) (s .pre .1 .3) (s .pre .1 .4) (s .pre .1 .2) (s .args .from) (s .pre .1 .6) (rowing-begin (s .pre .1 .0) (s .args .tries) (extensionsFrom (s .args .file .now) (s .args .task) (s .args .wanted) (s .args .from))) (k .result) (k .ensures)), s .pre .1 .1, scan-allows (s .pre .1 .0) (s .pre .1 .1) (s .pre .1 .3) (s .pre .1 .4) (s .pre .1 .2) (s .args .from) (s .pre .1 .6) (rowing-begin (s .pre .1 .0) (s .args .tries) (extensionsFrom (s .args .file .now) (s .args .task) (s .args .wanted) (s .args .from))) (k .result) (k .ensures) (e .1))))
     (λ c. search needs)
-    (λ c. let s = c .before .before .before .before .before .before .before .before .before .before .before .before .before .before .before .before .before .before .before .before .before .before .before .before .before .before .before in let l = c .before .before .before .before .before .before .before .before .before .before .before .before .before .before .before .before .before .before .before .before .loop in let k = c .before .before .before .before .before .before .before .before .before .before .before .before .before .before .before .sought in c .before .before .before .attempt .kept .1 .0 ∙ scan-again (s .pre .1 .0) (s .pre .1 .1) (s .pre .1 .3) (s .pre .1 .4) (s .pre .1 .2) (l .scan) (l .inv .0) (l .inv .1) (k .result) (k .ensures) .good .size ∙ sym (s .pre .1 .0 .ready .good .size))
-    (λ c. let s = c .before .before .before .before .before .before .before .before .before .before .before .before .before .before .before .before .before .before .before .before .before .before .before .before .before .before .before in let l = c .before .before .before .before .before .before .before .before .before .before .before .before .before .before .before .before .before .before .before .before .loop in let k = c .before .before .before .before .before .before .before .before .before .before .before .before .before .before .before .sought in let e = c .before .before .before .before .before .before .before .before .before .before .before .candidate .given in rowing-ended (s .pre .1 .0) (Enter (e .0 .0)) (scan-next (s .pre .1 .0) (s .pre .1 .1) (s .pre .1 .3) (s .pre .1 .4) (s .pre .1 .2) (l .scan) (l .inv .0) (l .inv .1) (k .result) (k .ensures) (e .1) (c .before .before .before .before .before .before .before .before .past .ensures)) (c .before .before .before .before .before .before .before .before .before .if2 .left) (c .before .before .before .attempt .ensures) (settled (c .before .before .before .attempt .result .ending) (c .match2 .keys2)))
-    (λ c. let s = c .before .before .before .before .before .before .before .before .before .before .before .before .before .before .before .before .before .before .before .before .before .before .before .before .before .before .before .before in let l = c .before .before .before .before .before .before .before .before .before .before .before .before .before .before .before .before .before .before .before .before .before .loop in let k = c .before .before .before .before .before .before .before .before .before .before .before .before .before .before .before .before .sought in let e = c .before .before .before .before .before .before .before .before .before .before .before .before .candidate .given in scan-less (s .pre .1 .0) (s .pre .1 .1) (s .pre .1 .3) (s .pre .1 .4) (s .pre .1 .2) (l .scan) (l .inv .0) (l .inv .1) (k .result) (k .ensures) (e .1) (c .before .before .before .before .before .before .before .before .before .past .ensures))
-    (λ c. let s = c .before .before .before .before .before .before .before .before .before .before .before .before .before .before .before .before .before .before .before .before .before .before .before .before .before .before .before .before in let l = c .before .before .before .before .before .before .before .before .before .before .before .before .before .before .before .before .before .before .before .before .before .loop in let k = c .before .before .before .before .before .before .before .before .before .before .before .before .before .before .before .before .sought in let e = c .before .before .before .before .before .before .before .before .before .before .before .before .candidate .given in (scan-stands (s .pre .1 .0) (s .pre .1 .1) (s .pre .1 .3) (s .pre .1 .4) (s .pre .1 .2) (l .scan) (l .inv .0) (l .inv .1) (k .result) (k .ensures) (e .1) (c .before .before .before .before .before .before .before .before .before .past .ensures), rowing-on (s .pre .1 .0) (Enter (e .0 .0)) (scan-next (s .pre .1 .0) (s .pre .1 .1) (s .pre .1 .3) (s .pre .1 .4) (s .pre .1 .2) (l .scan) (l .inv .0) (l .inv .1) (k .result) (k .ensures) (e .1) (c .before .before .before .before .before .before .before .before .before .past .ensures)) (c .before .before .before .before .before .before .before .before .before .before .if2 .left) (c .before .before .before .before .attempt .ensures) (c .enum-told2 .given .1))))
+    (λ c. let s = c .before .before .before .before .before .before .before .before .before .before .before .before .before .before .before .before .before .before in let k = c .before .before .before .before .before .before .before .before .before .before .before .sought in c .before .before .before .attempt .kept .1 .0 ∙ scan-again (s .pre .1 .0) (s .pre .1 .1) (s .pre .1 .3) (s .pre .1 .4) (s .pre .1 .2) (s .args .from) (s .pre .1 .6) (rowing-begin (s .pre .1 .0) (s .args .tries) (extensionsFrom (s .args .file .now) (s .args .task) (s .args .wanted) (s .args .from))) (k .result) (k .ensures) .good .size ∙ sym (s .pre .1 .0 .ready .good .size))
+    (λ c. let s = c .before .before .before .before .before .before .before .before .before .before .before .before .before .before .before .before .before .before in let k = c .before .before .before .before .before .before .before .before .before .before .before .sought in let e = c .before .before .before .before .before .before .before .candidate .given in rowing-ended (s .pre .1 .0) (Enter (e .0 .0)) (scan-next (s .pre .1 .0) (s .pre .1 .1) (s .pre .1 .3) (s .pre .1 .4) (s .pre .1 .2) (s .args .from) (s .pre .1 .6) (rowing-begin (s .pre .1 .0) (s .args .tries) (extensionsFrom (s .args .file .now) (s .args .task) (s .args .wanted) (s .args .from))) (k .result) (k .ensures) (e .1) refl) (c .before .before .before .before .before .if2 .left) (c .before .before .before .attempt .ensures) (settled (c .before .before .before .attempt .result .ending) (c .match2 .keys2)))
+    (λ c κs. let s = c .before .before .before .before .before .before .before .before .before .before .before .before .before .before .before .before .before .before .before in let k = c .before .before .before .before .before .before .before .before .before .before .before .before .sought in let e = c .before .before .before .before .before .before .before .before .candidate .given in scan-small (s .pre .1 .0) (s .pre .1 .1) (s .pre .1 .3) (s .pre .1 .4) (s .pre .1 .2) (s .args .from) (s .pre .1 .6) (rowing-begin (s .pre .1 .0) (s .args .tries) (extensionsFrom (s .args .file .now) (s .args .task) (s .args .wanted) (s .args .from))) (k .result) (k .ensures) (e .1))
+    (λ c κs. let s = c .before .before .before .before .before .before .before .before .before .before .before .before .before .before .before .before .before .before .before .before .before in let k = c .before .before .before .before .before .before .before .before .before .before .before .before .before .before .sought in let e = c .before .before .before .before .before .before .before .before .before .before .candidate .given in let on = rowing-on (s .pre .1 .0) (Enter (e .0 .0)) (scan-next (s .pre .1 .0) (s .pre .1 .1) (s .pre .1 .3) (s .pre .1 .4) (s .pre .1 .2) (s .args .from) (s .pre .1 .6) (rowing-begin (s .pre .1 .0) (s .args .tries) (extensionsFrom (s .args .file .now) (s .args .task) (s .args .wanted) (s .args .from))) (k .result) (k .ensures) (e .1) (c .before .past .ensures)) (c .before .before .before .before .before .before .before .before .if2 .left) (c .before .before .before .before .before .before .attempt .ensures) (c .before .before .enum-told2 .given .1) in (omega (arith, room-again (s .args .task) (s .pre .1 .0 .ready) (on .again), scan-less (s .pre .1 .0) (s .pre .1 .1) (s .pre .1 .3) (s .pre .1 .4) (s .pre .1 .2) (s .args .from) (s .pre .1 .6) (rowing-begin (s .pre .1 .0) (s .args .tries) (extensionsFrom (s .args .file .now) (s .args .task) (s .args .wanted) (s .args .from))) (k .result) (k .ensures) (e .1) (c .before .past .ensures), s .pre .0), (treats-again (s .pre .1 .0) (on .again), s .pre .1 .1, wanted-again (s .pre .1 .0) (s .pre .1 .1) (s .pre .1 .3) (s .pre .1 .4) (s .pre .1 .2) (on .again), omega (arith, s .pre .1 .3, on .again .copies), extends-again (s .pre .1 .0) (s .pre .1 .1) (s .pre .1 .3) (s .pre .1 .4) (s .pre .1 .2) (on .again), omega (arith, s .pre .1 .5, count-kept (on .again .later)), scan-stands (s .pre .1 .0) (s .pre .1 .1) (s .pre .1 .3) (s .pre .1 .4) (s .pre .1 .2) (s .args .from) (s .pre .1 .6) (rowing-begin (s .pre .1 .0) (s .args .tries) (extensionsFrom (s .args .file .now) (s .args .task) (s .args .wanted) (s .args .from))) (k .result) (k .ensures) (e .1) (c .before .past .ensures))))
+    (λ c. let s = c .before .before .before .before .before .before .before .before .before .before .before .before .before .before .before .before .before .before .before .before .before .before .before .before in let k = c .before .before .before .before .before .before .before .before .before .before .before .before .before .before .before .before .before .sought in let e = c .before .before .before .before .before .before .before .before .before .before .before .before .before .candidate .given in let on = rowing-on (s .pre .1 .0) (Enter (e .0 .0)) (scan-next (s .pre .1 .0) (s .pre .1 .1) (s .pre .1 .3) (s .pre .1 .4) (s .pre .1 .2) (s .args .from) (s .pre .1 .6) (rowing-begin (s .pre .1 .0) (s .args .tries) (extensionsFrom (s .args .file .now) (s .args .task) (s .args .wanted) (s .args .from))) (k .result) (k .ensures) (e .1) (c .before .before .before .before .past .ensures)) (c .before .before .before .before .before .before .before .before .before .before .before .if2 .left) (c .before .before .before .before .before .before .before .before .before .attempt .ensures) (c .before .before .before .before .before .enum-told2 .given .1) in c .before .before .extensions-by-scan .kept .1 .0 ∙ on .again .good .size ∙ sym (s .pre .1 .0 .ready .good .size))
+    (λ c. let s = c .before .before .before .before .before .before .before .before .before .before .before .before .before .before .before .before .before .before .before .before .before .before .before .before in let k = c .before .before .before .before .before .before .before .before .before .before .before .before .before .before .before .before .before .sought in let e = c .before .before .before .before .before .before .before .before .before .before .before .before .before .candidate .given in let on = rowing-on (s .pre .1 .0) (Enter (e .0 .0)) (scan-next (s .pre .1 .0) (s .pre .1 .1) (s .pre .1 .3) (s .pre .1 .4) (s .pre .1 .2) (s .args .from) (s .pre .1 .6) (rowing-begin (s .pre .1 .0) (s .args .tries) (extensionsFrom (s .args .file .now) (s .args .task) (s .args .wanted) (s .args .from))) (k .result) (k .ensures) (e .1) (c .before .before .before .before .past .ensures)) (c .before .before .before .before .before .before .before .before .before .before .before .if2 .left) (c .before .before .before .before .before .before .before .before .before .attempt .ensures) (c .before .before .before .before .before .enum-told2 .given .1) in rowing-then (s .pre .1 .0) on (c .before .before .extensions-by-scan .ensures)))
     (λ t. further-lts.spec
     (told-further t)
     (further-at t)
@@ -281,12 +263,14 @@ pub +attempt+extensions+extensions-by-scan+further+reductions+treat-spec : {M : 
     (λ c. let s = c .before .before .before .before .before .before in further-used (s .pre .1 .0) (s .pre .1 .1) (s .pre .1 .2) (c .before .if1 .taken) (c .without .ensures))
     (λ c κs. search needs)
     (λ c κs. search needs)
-    (λ c κs. let s = c .before .before .before .before .before .before .before .before .before .before in (omega (arith, s .pre .0), (s .pre .1 .0, s .pre .1 .1, further-wanted (s .pre .1 .0) (s .pre .1 .1) (s .pre .1 .2) (c .before .before .other-sign .ensures), c .before .before .before .before .before .if1 .left, further-extends (s .pre .1 .0) (s .pre .1 .1) (s .pre .1 .2) (c .before .before .before .before .before .if1 .left) (c .before .before .before .before .restarts .ensures) (not-true _ (c .before .before .before .if2 .taken)), c .before .if3 .taken)))
+    (λ c. omega (arith, c .before .before .before .before .before .before .before .before .before .pre .1 .0 .ready .good .size))
+    (λ c κs. let s = c .before .before .before .before .before .before .before .before .before .before .before in (omega (arith, s .pre .0), (s .pre .1 .0, s .pre .1 .1, (further-wanted (s .pre .1 .0) (s .pre .1 .1) (s .pre .1 .2) (c .before .before .before .other-sign .ensures)), c .before .before .before .before .before .before .if1 .left, (further-extends (s .pre .1 .0) (s .pre .1 .1) (s .pre .1 .2) (c .before .before .before .before .before .before .if1 .left) (c .before .before .before .before .before .restarts .ensures) (not-true _ (c .before .before .before .before .if2 .taken))), c .before .if3 .taken)))
     (λ c. search needs)
-    (λ c. let s = c .before .before .before .before .before .before .before .before .before .before .before .before .before in further-extended (s .pre .1 .0) (s .pre .1 .1) (s .pre .1 .2) (c .before .before .before .before .before .before .before .before .if1 .left) (c .before .before .before .before .before .before .before .restarts .ensures) (not-true _ (c .before .before .before .before .before .before .if2 .taken)) (c .before .before .extensions .ensures))
-    (λ c κs. let s = c .before .before .before .before .before .before .before .before .before .before in (omega (arith, s .pre .0), (s .pre .1 .0, s .pre .1 .1, further-wanted (s .pre .1 .0) (s .pre .1 .1) (s .pre .1 .2) (c .before .before .other-sign .ensures), c .before .before .before .before .before .if1 .left, further-extends (s .pre .1 .0) (s .pre .1 .1) (s .pre .1 .2) (c .before .before .before .before .before .if1 .left) (c .before .before .before .before .restarts .ensures) (not-true _ (c .before .before .before .if2 .taken)), c .before .if3 .left)))
+    (λ c. let s = c .before .before .before .before .before .before .before .before .before .before .before .before .before .before in further-extended (s .pre .1 .0) (s .pre .1 .1) (s .pre .1 .2) (c .before .before .before .before .before .before .before .before .before .if1 .left) (c .before .before .before .before .before .before .before .before .restarts .ensures) (not-true _ (c .before .before .before .before .before .before .before .if2 .taken)) (c .before .before .extensions .ensures))
+    (λ c κs. search needs)
+    (λ c κs. let s = c .before .before .before .before .before .before .before .before .before .before .before .before in (omega (arith, s .pre .0, s .pre .1 .0 .asked .short), (s .pre .1 .0, s .pre .1 .1, (further-wanted (s .pre .1 .0) (s .pre .1 .1) (s .pre .1 .2) (c .before .before .before .before .other-sign .ensures)), c .before .before .before .before .before .before .before .if1 .left, (further-extends (s .pre .1 .0) (s .pre .1 .1) (s .pre .1 .2) (c .before .before .before .before .before .before .before .if1 .left) (c .before .before .before .before .before .before .restarts .ensures) (not-true _ (c .before .before .before .before .before .if2 .taken))), c .before .before .if3 .left, scan-begin (s .pre .1 .0) (s .pre .1 .1) (c .before .before .before .before .before .before .before .if1 .left) (further-extends (s .pre .1 .0) (s .pre .1 .1) (s .pre .1 .2) (c .before .before .before .before .before .before .before .if1 .left) (c .before .before .before .before .before .before .restarts .ensures) (not-true _ (c .before .before .before .before .before .if2 .taken))) (further-wanted (s .pre .1 .0) (s .pre .1 .1) (s .pre .1 .2) (c .before .before .before .before .other-sign .ensures)) (c .before .beginning .ensures))))
     (λ c. search needs)
-    (λ c. let s = c .before .before .before .before .before .before .before .before .before .before .before .before .before in further-extended (s .pre .1 .0) (s .pre .1 .1) (s .pre .1 .2) (c .before .before .before .before .before .before .before .before .if1 .left) (c .before .before .before .before .before .before .before .restarts .ensures) (not-true _ (c .before .before .before .before .before .before .if2 .taken)) (c .before .before .extensions-by-scan .ensures))
+    (λ c. let s = c .before .before .before .before .before .before .before .before .before .before .before .before .before .before .before in further-extended (s .pre .1 .0) (s .pre .1 .1) (s .pre .1 .2) (c .before .before .before .before .before .before .before .before .before .before .if1 .left) (c .before .before .before .before .before .before .before .before .before .restarts .ensures) (not-true _ (c .before .before .before .before .before .before .before .before .if2 .taken)) (scan-all (s .pre .1 .0) (s .pre .1 .1) (c .before .before .before .before .before .before .before .before .before .before .if1 .left) (further-extends (s .pre .1 .0) (s .pre .1 .1) (s .pre .1 .2) (c .before .before .before .before .before .before .before .before .before .before .if1 .left) (c .before .before .before .before .before .before .before .before .before .restarts .ensures) (not-true _ (c .before .before .before .before .before .before .before .before .if2 .taken))) (further-wanted (s .pre .1 .0) (s .pre .1 .1) (s .pre .1 .2) (c .before .before .before .before .before .before .before .other-sign .ensures)) (c .before .before .before .before .beginning .ensures) (c .before .before .extensions-by-scan .ensures)))
     (λ c κs. search needs)
     (λ c. let s = c .before .before .before .before .before .before .before .before .before in further-out (s .pre .1 .0) (s .pre .1 .1) (s .pre .1 .2) (c .before .before .before .before .if1 .left) (c .before .before .before .restarts .ensures) (not-false _ (c .before .before .if2 .left)) (c .before .if4 .taken) (c .without2 .ensures))
     (λ c. omega (arith, c .before .if4 .left))

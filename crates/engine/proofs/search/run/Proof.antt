@@ -12,6 +12,6 @@ run-spec =
     (λ c. let s = c .before .before in omega (arith, file-least (s .args .file .now) (s .pre .1) (s .pre .2)))
     (λ c. let s = c .before .before in omega (arith, file-most (s .args .file .now) (s .pre .1) (s .pre .2)))
     (λ c κs. let s = c .before .before .before in (s .pre .0, question-clause (s .args .file .now) (s .pre .1) (s .pre .2)))
-    (λ c κs. let k = c .before .before .before .before .before .before in let s = k .before in run-treats (s .args .file .now) (s .pre .1) (s .pre .2) (λ i. k .shared-slice-known .given i .fits) (s .args .conditions) (s .pre .3) (s .args .noted) (c .before .before .before .begin .ensures .0) (s .pre .4) (c .before .before .before .begin .ensures .1))
+    (λ c κs. let k = c .before .before .before .before .before .before in let s = k .before in run-treats (s .args .file .now) (s .pre .1) (s .pre .2) (λ i. k .shared-slice-known .given i .fits) (s .args .conditions) (s .pre .3) (c .before .before .before .begin .ensures .0) (s .pre .4) (c .before .before .before .begin .ensures .1))
     (λ c. search needs)
-    (λ c. let k = c .before .before .before .before .before .before .before .before .before in let s = k .before in run-ends (s .args .file .now) (s .pre .1) (s .pre .2) (λ i. k .shared-slice-known .given i .fits) (s .args .conditions) (s .pre .3) (s .args .noted) (c .before .before .before .before .before .before .begin .ensures .0) (c .before .before .treat .ensures)))
+    (λ c. let k = c .before .before .before .before .before .before .before .before .before in let s = k .before in run-ends (s .args .file .now) (s .pre .1) (s .pre .2) (λ i. k .shared-slice-known .given i .fits) (s .args .conditions) (s .pre .3) (c .before .before .before .before .before .before .begin .ensures .0) (c .before .before .before .before .before .before .begin .ensures .1) (c .before .before .treat .ensures)))

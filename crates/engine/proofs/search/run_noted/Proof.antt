@@ -1,6 +1,6 @@
 -- The literals noted and linked, and the search by them.
 use borrow.Author.Needs.{needs}
-use mathlib.Core.Path.{refl, _∙_}
+use mathlib.Core.Path.{_∙_}
 use native.Mathlib.Omega.{arith}
 use Rattle.engine.proofs.Searching.Finding.{file-least, file-most, file-literals, noted-ends}
 use Rattle.engine.proofs.search.run_noted.Statement.{statement}
@@ -16,4 +16,4 @@ run-noted-spec =
     (λ c κs. search needs)
     (λ c κs. let s = c .before .before .before .before .before .before .before .before .before .before .before in let n = c .before .before .before .before .before .before .before .note in let l = c .before .before .before .link in (l .kept .1 .0 ∙ n .kept .1 .0 ∙ s .pre .0, s .pre .1, s .pre .2, s .pre .3, λ y. l .ensures _ (n .ensures)))
     (λ c. search needs)
-    (λ c. noted-ends refl (c .before .before .run .ensures)))
+    (λ c. noted-ends (c .before .before .before .before .before .before .link .ensures _ (c .before .before .before .before .before .before .before .before .before .before .note .ensures)) (c .before .before .run .ensures)))
