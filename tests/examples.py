@@ -22,6 +22,9 @@ expected `)`
     "two_questions": """examples/two_questions.p: there is more than one question (role negated_conjecture): first_question and second_question
 % SZS status InputError for examples/two_questions.p
 """,
+    "over": """examples/over.p: the clause any_role has more than 7 literals, the most that a clause may have
+% SZS status InputError for examples/over.p
+""",
     "matinee-misspelt": """examples/proofs/matinee-misspelt.proof:2:8: the proof goes wrong here
   extend playd_3 0
          ^
@@ -241,6 +244,51 @@ def answer_lines(answer, predicates, functions, atoms):
     return disjuncts[:1] + ["or " + d for d in disjuncts[1:]]
 
 
+def tree(words):
+    """The first term or literal of some words as (its word, its arguments), and the rest."""
+    w, rest, arguments = words[0], words[1:], []
+    for _ in range(0 if w >> 30 == 0 else w >> 12 & 7):
+        argument, rest = tree(rest)
+        arguments.append(argument)
+    return (w, arguments), rest
+
+
+def trees(words):
+    told = []
+    while words:
+        first, words = tree(words)
+        told.append(first)
+    return told
+
+
+def met(asked, given, values):
+    """What each variable of a question's term stands for in a disjunct's, by first use."""
+    if asked[0] >> 30 == 0:
+        values.setdefault(asked[0], given)
+    for one, other in zip(asked[1], given[1]) if asked[0] >> 30 else []:
+        met(one, other, values)
+
+
+def term(given, functions):
+    w, arguments = given
+    if w >> 30 == 0:
+        return f"X{w & 1023}"
+    return functions[w & 4095] + (f"({','.join(term(a, functions) for a in arguments)})" if arguments else "")
+
+
+def tuple_line(path, question, answer, functions):
+    """The answers line: what the question's variables stand for in each disjunct."""
+    asked, given, told = trees(question), trees(answer), []
+    for at in range(0, len(given), len(asked)):
+        values = {}
+        for one, other in zip(asked, given[at:at + len(asked)]):
+            met(one, other, values)
+        told.append("[" + ",".join(term(v, functions) for v in values.values()) + "]")
+    if told[0] == "[]":
+        return []
+    return [f"% SZS answers Tuple [{told[0] if len(told) == 1 else '(' + '|'.join(told) + ')'}|_] for {path}"]
+
+
 def behind(steps, clauses):
     copies = {len(clauses) - 1: 1}
     for step in steps:
@@ -264,6 +312,7 @@ def expected(path):
     lines.append("Found: a definite answer" + cost if len(disjuncts) == 1 else f"Found: an answer with {len(disjuncts)} alternatives, not definite" + cost)
     lines += disjuncts + behind(steps, clauses)
     lines.append(f"% SZS status Unsatisfiable for {path}")
+    lines += tuple_line(path, clause_words(file)[-1], answer, functions)
     return "\n".join(lines) + "\n"
 
 
@@ -289,7 +338,7 @@ QUESTIONS_REFUSED = {
 expected arguments in parentheses, `,` or `)`
 % SZS status InputError for examples/matinee.questions:14
 """,
-    "a_bill": """examples/matinee.questions:15: there is no question: no clause has the role negated_conjecture
+    "a_bill": """examples/matinee.questions:15: this clause is no question: its role is not negated_conjecture
 % SZS status InputError for examples/matinee.questions:15
 """,
 }

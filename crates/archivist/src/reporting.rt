@@ -89,17 +89,12 @@ fn tell_wrong(name: &[u8], text: &[u8], from: usize, place: usize) -> Report {
     refused()
 }
 
-// Tries that are left of a budget.
-fn left(budget: u32, tries: u64) -> u32 {
-    let all = budget as u64;
-    if all < tries {
-        return 0;
-    }
-    let rest = all - tries;
-    if 4294967295 < rest {
-        return budget;
-    }
-    rest as u32
+fn tell_no_question(label: &[u8]) -> Report {
+    let mut out = asking::page();
+    let n = counts::no_question(&mut out, 0, label);
+    asking::write(STDOUT_FILENO, &out, n);
+    asking::status_line(label, b"InputError");
+    refused()
 }
 
 fn narrow(n: usize) -> u32 {
@@ -109,33 +104,13 @@ fn narrow(n: usize) -> u32 {
     n as u32
 }
 
-// The season of one question, which is the last clause of a file, at a bound.
-fn run(file: &[u32], bound: u32, budget: u32, tries: u64) -> Report {
-    let question = asking::lookup_question(file);
-    if 16000 < question.len() {
-        return refused();
-    }
-    let entries = [0, question.len() as u32, bound, left(budget, tries)];
+// Bounds 0, 1, 2 up to the limit with one budget for all.
+fn put_question(file: &[u32], limit: u32, budget: u32) -> Report {
     let mut proof = asking::proof_buffer();
     let mut answer = asking::answer_buffer();
     let mut work = files::file_buffer();
-    let r = season::season(file, &entries, question, &mut proof, &mut answer, &mut work);
-    counts::added(before(tries), r)
-}
-
-// Bounds 0, 1, 2 up to the limit, as long as there is none.
-fn put_question(file: &[u32], limit: u32, budget: u32) -> Report {
-    let mut bound: u32 = 0;
-    let mut tries: u64 = 0;
-    while bound < limit {
-        let r = run(file, bound, budget, tries);
-        if r.none != 1 {
-            return r;
-        }
-        tries = r.tries;
-        bound += 1;
-    }
-    run(file, bound, budget, tries)
+    let least = smallest::smallest(file, limit, budget, &mut proof, &mut answer, &mut work);
+    counts::alone(least.outcome)
 }
 
 fn tell(label: &[u8], text: &[u8], r: Report) {
@@ -189,13 +164,17 @@ fn ask_next(
     let verdict = judge_text(clause);
     match verdict {
         Verdict::Wrong(place) => tell_wrong(name, questions, from, plus(from, place)),
-        Verdict::Fine(clauses, _) => {
+        Verdict::Fine(clauses, asked) => {
             if clauses == 0 {
                 return before(0);
             }
             let at = plus(from, stuck::question_name(clause, 1));
             let n = label(&mut space, name, questions, at);
-            ask_clause(limit, budget, table, part::front_bytes(&space, n), clause)
+            let place = part::front_bytes(&space, n);
+            if asked == 0 {
+                return tell_no_question(place);
+            }
+            ask_clause(limit, budget, table, place, clause)
         }
     }
 }
