@@ -4,9 +4,10 @@ and `hukolearu draw` print for the proofs TEXT-WHAT.proof in examples/proofs/ of
 of an accepted proof), and two drawings in docs/pictures/. For `season`, examples/NAME.questions are put to examples/NAME.p, and for `desk` every day and
 house up to the records' largest to examples/desk.records: examples/expected/NAME.season and desk.reports. With --check, compares with what is kept.
 The bound, tries, proof and answer come from the independent Rust program (rust/calls, verbs tptp-in, smallest, check and desk); names, places in a text
-and the lines themselves are worked out here from document 02 and docs/CATALOGUER.md, the leaves of a proof from document 01's "Tableau rules".
+and the lines themselves are worked out here from document 02 and docs/CATALOGUER.md, the leaves of a proof and what its variables are bound to from
+document 01's "Tableau rules".
 Refusals are written by hand below."""
-import os, re, subprocess, sys
+import itertools, os, re, subprocess, sys
 
 top = os.path.dirname(os.path.dirname(os.path.abspath(__file__)))
 os.chdir(top)
@@ -149,6 +150,95 @@ def tableau(steps, sizes):
     return leftmost + [leaves[0] if leaves else None]
 
 
+def terms(words, copy, count):
+    """So many terms of a copy of a clause, and the words after them: a variable is (copy, number), anything else [word, arguments]."""
+    told = []
+    for _ in range(count):
+        w, words = words[0], words[1:]
+        if w >> 30 == 0:
+            told.append((copy, w & 1023))
+        else:
+            arguments, words = terms(words, copy, w >> 12 & 7)
+            told.append([w, arguments])
+    return told, words
+
+
+def atoms(words, copy):
+    told = []
+    while words:
+        w = words[0]
+        arguments, words = terms(words[1:], copy, w >> 12 & 7)
+        told.append([w, arguments])
+    return told
+
+
+def varies(term):
+    return isinstance(term, tuple) or any(varies(argument) for argument in term[1])
+
+
+def follow(term, bound):
+    while isinstance(term, tuple) and term in bound:
+        term = bound[term]
+    return term
+
+
+def holds(term, variable, bound, passed):
+    """A variable occurs in a term; the variables that were looked into are passed once."""
+    if isinstance(term, tuple) and term in bound:
+        if term in passed:
+            return False
+        passed.add(term)
+        return holds(bound[term], variable, bound, passed)
+    return term == variable if isinstance(term, tuple) else any(holds(argument, variable, bound, passed) for argument in term[1])
+
+
+def unify(left, right, bound):
+    """Two atoms of a proof that the checker has accepted up to here are made equal."""
+    left, right = follow(left, bound), follow(right, bound)
+    if isinstance(left, tuple) or isinstance(right, tuple):
+        if left == right:
+            return
+        variable, term = (right, left) if isinstance(right, tuple) else (left, right)
+        assert not holds(term, variable, bound, set())
+        bound[variable] = term
+        return
+    assert left[0] == right[0]
+    for one, other in zip(left[1], right[1]):
+        unify(one, other, bound)
+
+
+def words_under(term, bound):
+    """A literal's words under what is bound, one by one; a free variable is numbered by its copy and its own number."""
+    term = follow(term, bound)
+    if isinstance(term, tuple):
+        yield term[0] * 16 + term[1]
+        return
+    yield term[0]
+    for argument in term[1]:
+        yield from words_under(argument, bound)
+
+
+def words_shown(words, predicates, functions):
+    """Words of a literal as text, up to wherever they end."""
+    text, lists = "", []
+    for w in words:
+        if w >> 30 == 0:
+            text += f"X{w}"
+        elif w >> 30 == 1:
+            text += functions[w & 4095]
+        else:
+            text += ("~ " if w >> 15 & 1 else "") + predicates[w & 4095]
+        arity = 0 if w >> 30 == 0 else w >> 12 & 7
+        if arity:
+            text, lists = text + "(", lists + [arity - 1]
+            continue
+        while lists and not lists[-1]:
+            text, lists = text + ")", lists[:-1]
+        if lists:
+            text, lists = text + ",", lists[:-1] + [lists[-1] - 1]
+    return text
+
+
 class Offered:
     def __init__(self, path, proof):
         self.path = path
@@ -169,12 +259,37 @@ class Offered:
             return f"reduce {step[1]}"
         return f"{step[1]:08X}" if step[0] == "word" else f"extend {self.reference(step[1])} {step[2]}"
 
+    def bind(self, count):
+        """The copies that the first steps make, by the step that hung each, and what they bind."""
+        question = len(self.clauses) - 1
+        words = clause_words(self.file)
+        self.copies, self.bound = {0: atoms(words[question], 0)}, {}
+        for place, step in enumerate(self.steps[:count]):
+            number, _, literal, branch = self.leaves[place]
+            if step[0] == "extend":
+                self.copies[place + 1] = atoms(words[step[1]], len(self.copies))
+                other = self.copies[place + 1][step[2]]
+            else:
+                other = self.copies[branch[step[1] - 1][0]][branch[step[1] - 1][2]]
+            mine = self.copies[number][literal]
+            unify([mine[0] & ~0x8000, mine[1]], [other[0] & ~0x8000, other[1]], self.bound)
+
+    def under(self, number, clause, literal):
+        """A literal that has variables, in a copy that has been made, under what is bound: up to 64 words and 120 bytes."""
+        if number not in self.copies or not varies(self.copies[number][literal]):
+            return None
+        words = list(itertools.islice(words_under(self.copies[number][literal], self.bound), 65))
+        text = words_shown(words[:64], self.predicates, self.functions) + ("..." if len(words) > 64 else "")
+        return text if len(text) <= 120 else text[:120] + "..."
+
     def leaf(self, label, leaf):
         if not leaf:
-            return f"{label}: there is none"
+            return [f"{label}: there is none"]
         number, clause, literal = leaf[:3]
         hung = f"by step {number}" if number else "at the start"
-        return f"{label}: {self.literals[clause][literal][0]}, literal {literal} of {self.clauses[clause]} (clause {clause}), hung {hung}"
+        there = self.under(number, clause, literal)
+        line = f"{label}: {self.literals[clause][literal][0]}, literal {literal} of {self.clauses[clause]} (clause {clause}), hung {hung}"
+        return [line] + ([f"  there: {there}"] if there else [])
 
     def partner(self, place):
         step, leaf = self.steps[place], self.leaves[place]
@@ -203,12 +318,13 @@ class Offered:
             20: "is a circle: under what is bound so far a variable would stand for a term that holds it",
         }[self.told["status"]]
         label = {"reduce": "ancestor", "extend": "clause", "word": "literal"}[step[0]]
-        lines = [f"Not accepted: step {place + 1} {fault}", f"  {self.step(step)}", self.leaf("leaf", leaf), self.leaf(label, other)]
+        lines = [f"Not accepted: step {place + 1} {fault}", f"  {self.step(step)}"] + self.leaf("leaf", leaf) + self.leaf(label, other)
         return lines + ([self.reason(leaf, other)] if self.told["status"] == 13 else [])
 
     def checked(self):
+        self.bind(self.told["place"] if self.told["status"] else len(self.steps))
         if self.told["status"] == 15:
-            lines = [f"Not accepted: leaves are open after the last step, {len(self.steps)}; the leftmost:", self.leaf("leaf", self.leaves[-1])]
+            lines = [f"Not accepted: leaves are open after the last step, {len(self.steps)}; the leftmost:"] + self.leaf("leaf", self.leaves[-1])
         elif self.told["status"]:
             lines = self.wrong(self.told["place"])
         else:
@@ -217,11 +333,16 @@ class Offered:
             lines = [f"Accepted: {many} (steps {len(self.steps)})"] + disjuncts + behind(map(step_word, self.steps), self.clauses)
         return "\n".join(lines) + f"\n% SZS status {'Unknown' if self.told['status'] else 'Unsatisfiable'} for {self.path}\n"
 
+    def node(self, number, clause, literal):
+        there = self.under(number, clause, literal)
+        return f'    n{number}_{literal} [label="{self.literals[clause][literal][0]}' + (f"\\n{there}" if there else "") + '"];'
+
     def box(self, number, clause):
         lines = [f"  subgraph cluster_{number} {{", f'    label="{self.clauses[clause]}";']
-        return lines + [f'    n{number}_{j} [label="{l[0]}"];' for j, l in enumerate(self.literals[clause])] + ["  }"]
+        return lines + [self.node(number, clause, j) for j in range(len(self.literals[clause]))] + ["  }"]
 
     def drawn(self):
+        self.bind(len(self.steps))
         lines = ["digraph tableau {", "  ordering=out;", "  node [shape=box];", "  edge [arrowhead=none];"] + self.box(0, len(self.clauses) - 1)
         for place, step in enumerate(self.steps):
             number, _, literal, branch = self.leaves[place]

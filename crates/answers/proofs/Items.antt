@@ -19,7 +19,7 @@ use Rattle.answers.specs.Writing.{Item, fixed, free, itemsOf, itemsAmong
 use Rattle.unification.proofs.TermLists.{arity-under, first-nil}
 
 -- the word of an item under a numbering, and the variables of items
-wordBy : (Variable → ℕ) → Item → ℕ
+unfoldable pub wordBy : (Variable → ℕ) → Item → ℕ
 wordBy number (fixed w) = w
 wordBy number (free x) = variableWord (number x)
 
@@ -42,7 +42,7 @@ module _ (number : Variable → ℕ) where
     term-words (var x) = refl
     term-words (app f ts) = ap₂ _∷_ (ap (functionWord f) (arity-under (λ x. var (number x)) ts)) (terms-words ts)
 
-    terms-words : (ts : Terms Variable) → termsWords (unders (λ x. var (number x)) ts) ≡ map (wordBy number) (itemsAmong ts)
+    pub terms-words : (ts : Terms Variable) → termsWords (unders (λ x. var (number x)) ts) ≡ map (wordBy number) (itemsAmong ts)
     terms-words nil = refl
     terms-words (t then ts) = ap₂ _++_ (term-words t) (terms-words ts) ∙ sym (map-append (wordBy number) (itemsOf t) (itemsAmong ts))
 

@@ -6,8 +6,6 @@ use crate::arguments::Options;
 use crate::asking;
 use crate::draw;
 use crate::files;
-use drawing::unreadable;
-use drawing::verdict;
 use hukolearu::Outcome;
 use hukolearu::calls;
 use hukolearu::status;
@@ -15,6 +13,8 @@ use libc::STDERR_FILENO;
 use libc::STDOUT_FILENO;
 use text::part;
 use text::put;
+use verdicts::unreadable;
+use verdicts::verdict;
 use words::fields::wide;
 use written_proofs::read;
 use written_proofs::read::Reading;
@@ -107,11 +107,15 @@ fn tell_refused(
     if o.place == 4294967295 {
         return;
     }
+    let mut bound = draw::bound_buffer();
+    let taken = part::front(steps, wide(o.place));
+    draw::bind(file, limit, taken, &mut bound);
     let mut out = asking::page();
     let n = verdict::refused(
         text,
         index,
         file,
+        &bound,
         steps,
         limit,
         o.status,
@@ -137,7 +141,7 @@ fn judge(
     let o = calls::check_proof(file, limit, steps, &mut answer, &mut work);
     if o.status == status::DONE {
         if drawn {
-            draw::write(text, index, file, steps);
+            draw::write(text, index, file, limit, steps);
             return;
         }
         let own = part::front(&answer, wide(o.answer));
@@ -146,7 +150,7 @@ fn judge(
     }
     if o.status == status::ANSWER_TOO_LONG {
         if drawn {
-            draw::write(text, index, file, steps);
+            draw::write(text, index, file, limit, steps);
             return;
         }
         tell_too_long(name, text, index, file, limit, steps);

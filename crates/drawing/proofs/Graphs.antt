@@ -16,16 +16,13 @@ use Rattle.text.specs.Put.{Put}
 use Rattle.text.specs.Quoted.{bytes}
 use Rattle.text.specs.Digits.{decimalText}
 use Rattle.text.proofs.Putting.{Left, begin, further, finish, then as joined}
-use Rattle.drawing.specs.Leaves.{leftmost, ancestor}
-use Rattle.drawing.specs.Shown.{sizesIn, questionIn, literalCut, nameCut}
-use Rattle.drawing.specs.Graph.{Source, nodeText, labelText, literalLine, literalLines, boxText, copyText, strokeText, betweenText, lineText, linesText, underText, arrowText, reductionText, stepDrawn, stepsDrawn, copiesText, tableauText, drawText}
-use Rattle.drawing.proofs.Showing.{sized-whole}
-use Rattle.drawing.specs.declared.leaf.Leaf.{Leaf}
-use Rattle.drawing.specs.declared.leaf.Leaf.the-variants.{Open, Nothing}
-
--- nothing put
-pub no-bytes : (out : List ℕ) (at : ℕ) → Put out at [] out at
-no-bytes out at = finish (begin out at [])
+use Rattle.leaves.specs.Leaves.{leftmost, ancestor}
+use Rattle.leaves.specs.Shown.{Source, sizesIn, questionIn, literalCut, nameCut}
+use Rattle.leaves.specs.Bound.{copyNumber, toldText}
+use Rattle.drawing.specs.Graph.{nodeText, labelText, literalLine, literalLines, boxText, copyText, strokeText, betweenText, lineText, linesText, underText, arrowText, reductionText, stepDrawn, stepsDrawn, copiesText, tableauText, drawText}
+use Rattle.leaves.proofs.Showing.{no-bytes, take-within, sized-whole}
+use Rattle.leaves.specs.declared.leaf.Leaf.{Leaf}
+use Rattle.leaves.specs.declared.leaf.Leaf.the-variants.{Open, Nothing}
 
 module _ {o₀ o₁ : List ℕ} {n₀ n₁ : ℕ} where
   pub stroke-bold : {b : Bool} → b ≡ true → Put o₀ n₀ (bytes " [style=bold];\n") o₁ n₁ → Put o₀ n₀ (strokeText b) o₁ n₁
@@ -76,20 +73,22 @@ module _ {o₀ o₁ : List ℕ} {n₀ n₁ : ℕ} where
       box-is text index number clause p q r s = joined p (joined q (joined r s))
 
     module _ {o₃ : List ℕ} {n₃ : ℕ} where
-      pub label-is : (S : Source) (clause literal : ℕ) → Put o₀ n₀ (bytes " [label=\"") o₁ n₁
-          → Put o₁ n₁ (literalCut (S .text) (S .index) (S .file) clause literal) o₂ n₂ → Put o₂ n₂ (bytes "\"];\n") o₃ n₃ → Put o₀ n₀ (labelText S clause literal) o₃ n₃
-      unfolding labelText
-      label-is S clause literal p q r = joined p (joined q r)
+      module _ {o₄ : List ℕ} {n₄ : ℕ} where
+        pub label-is : (S : Source) (made clause literal : ℕ) → Put o₀ n₀ (bytes " [label=\"") o₁ n₁
+            → Put o₁ n₁ (literalCut (S .text) (S .index) (S .file) clause literal) o₂ n₂ → Put o₂ n₂ (toldText S (bytes "\\n") [] made clause literal) o₃ n₃
+            → Put o₃ n₃ (bytes "\"];\n") o₄ n₄ → Put o₀ n₀ (labelText S made clause literal) o₄ n₄
+        unfolding labelText
+        label-is S made clause literal p q r s = joined p (joined q (joined r s))
 
-      pub literal-line-is : (S : Source) (number clause literal : ℕ) → Put o₀ n₀ (bytes "    ") o₁ n₁ → Put o₁ n₁ (nodeText number literal) o₂ n₂
-          → Put o₂ n₂ (labelText S clause literal) o₃ n₃ → Put o₀ n₀ (literalLine S number clause literal) o₃ n₃
+      pub literal-line-is : (S : Source) (number made clause literal : ℕ) → Put o₀ n₀ (bytes "    ") o₁ n₁ → Put o₁ n₁ (nodeText number literal) o₂ n₂
+          → Put o₂ n₂ (labelText S made clause literal) o₃ n₃ → Put o₀ n₀ (literalLine S number made clause literal) o₃ n₃
       unfolding literalLine
-      literal-line-is S number clause literal p q r = joined p (joined q r)
+      literal-line-is S number made clause literal p q r = joined p (joined q r)
 
-      pub copy-is : (S : Source) (number clause size : ℕ) → Put o₀ n₀ (boxText (S .text) (S .index) number clause) o₁ n₁
-          → Put o₁ n₁ (literalLines S number clause 0 size) o₂ n₂ → Put o₂ n₂ (bytes "  }\n") o₃ n₃ → Put o₀ n₀ (copyText S number clause size) o₃ n₃
+      pub copy-is : (S : Source) (number made clause size : ℕ) → Put o₀ n₀ (boxText (S .text) (S .index) number clause) o₁ n₁
+          → Put o₁ n₁ (literalLines S number made clause 0 size) o₂ n₂ → Put o₂ n₂ (bytes "  }\n") o₃ n₃ → Put o₀ n₀ (copyText S number made clause size) o₃ n₃
       unfolding copyText
-      copy-is S number clause size p q r = joined p (joined q r)
+      copy-is S number made clause size p q r = joined p (joined q r)
 
       pub tableau-is : (S : Source) (sizes : List ℕ) (question : ℕ) (steps : List ℕ)
           → Put o₀ n₀ (bytes "digraph tableau {\n  ordering=out;\n  node [shape=box];\n  edge [arrowhead=none];\n") o₁ n₁
@@ -97,7 +96,7 @@ module _ {o₀ o₁ : List ℕ} {n₀ n₁ : ℕ} where
       unfolding tableauText
       tableau-is S sizes question steps p q r = joined p (joined q r)
 
-    pub copies-is : (S : Source) (sizes : List ℕ) (question : ℕ) (steps : List ℕ) {size : ℕ} → size ≡ getD sizes question 0 → Put o₀ n₀ (copyText S 0 question size) o₁ n₁
+    pub copies-is : (S : Source) (sizes : List ℕ) (question : ℕ) (steps : List ℕ) {size : ℕ} → size ≡ getD sizes question 0 → Put o₀ n₀ (copyText S 0 0 question size) o₁ n₁
         → Put o₁ n₁ (stepsDrawn S sizes question steps 0 (length steps)) o₂ n₂ → Put o₀ n₀ (copiesText S sizes question steps) o₂ n₂
     unfolding copiesText
     copies-is S sizes question steps e p q = joined (rw e at p) q
@@ -124,27 +123,27 @@ pub ruleset reduction-laws = (reduction-leaf, reduction-none)
 pub ruleset arrow-laws = (arrow-leaf, arrow-none)
 
 -- the literals of a copy
-pub record Boxing (S : Source) (number clause size : ℕ) (first : List ℕ) (from : ℕ) (out : List ℕ) (at literal : ℕ) : Type 0 where
+pub record Boxing (S : Source) (number made clause size : ℕ) (first : List ℕ) (from : ℕ) (out : List ℕ) (at literal : ℕ) : Type 0 where
   pub low : literal ≤ size
-  pub left : Left first from (literalLines S number clause 0 size) out at (literalLines S number clause literal (size - literal))
+  pub left : Left first from (literalLines S number made clause 0 size) out at (literalLines S number made clause literal (size - literal))
 
-pub box-begin : (S : Source) (number clause size : ℕ) (first : List ℕ) (from : ℕ) → Boxing S number clause size first from first from 0
-box-begin S number clause size first from = let z : size - 0 ≡ size = omega arith in record { low = omega arith; left = rw z (begin first from (literalLines S number clause 0 size)) }
+pub box-begin : (S : Source) (number made clause size : ℕ) (first : List ℕ) (from : ℕ) → Boxing S number made clause size first from first from 0
+box-begin S number made clause size first from = let z : size - 0 ≡ size = omega arith in record { low = omega arith; left = rw z (begin first from (literalLines S number made clause 0 size)) }
 
-module _ {S : Source} {number clause size : ℕ} {first : List ℕ} {from : ℕ} {out : List ℕ} {at literal : ℕ} (g : Boxing S number clause size first from out at literal) where
-  pub box-over : size ≤ literal → Put first from (literalLines S number clause 0 size) out at
+module _ {S : Source} {number made clause size : ℕ} {first : List ℕ} {from : ℕ} {out : List ℕ} {at literal : ℕ} (g : Boxing S number made clause size first from out at literal) where
+  pub box-over : size ≤ literal → Put first from (literalLines S number made clause 0 size) out at
   unfolding literalLines
   box-over h = let z : size - literal ≡ 0 = omega (arith, h) in finish (rw z at (g .left))
 
-  pub box-on : literal < size → {out' : List ℕ} {at' : ℕ} → Put out at (literalLine S number clause literal) out' at'
-      → Boxing S number clause size first from out' at' (literal + 1)
+  pub box-on : literal < size → {out' : List ℕ} {at' : ℕ} → Put out at (literalLine S number made clause literal) out' at'
+      → Boxing S number made clause size first from out' at' (literal + 1)
   unfolding literalLines
   box-on h {out'} {at'} p = record {
     low = omega arith;
-    left = further (literalLine S number clause literal) (literalLines S number clause (literal + 1) (size - (literal + 1))) (turned (size - (literal + 1)) (omega (arith, h))) p;
+    left = further (literalLine S number made clause literal) (literalLines S number made clause (literal + 1) (size - (literal + 1))) (turned (size - (literal + 1)) (omega (arith, h))) p;
   }
     where
-      turned : (k : ℕ) → size - literal ≡ suc k → Left first from (literalLines S number clause 0 size) out at (literalLine S number clause literal ++ literalLines S number clause (literal + 1) k)
+      turned : (k : ℕ) → size - literal ≡ suc k → Left first from (literalLines S number made clause 0 size) out at (literalLine S number made clause literal ++ literalLines S number made clause (literal + 1) k)
       turned k z = rw add-one (rw z at (g .left))
 
 pub ruleset box-laws = (box-begin, box-over, box-on)
@@ -183,10 +182,11 @@ module _ (S : Source) (sizes : List ℕ) (question : ℕ) (steps : List ℕ) (do
   unfolding stepDrawn
   drawn-reduction k et p = rw (← ew, ← es, k, ← el, ← et) p
 
-  pub drawn-extension : {i j : ℕ} → s ≡ Extension i j → {size : ℕ} → size ≡ getD sizes i 0 → Put out from (copyText S (done + 1) i size ++ underText leaf (done + 1) j size) left end
+  pub drawn-extension : {i j : ℕ} → s ≡ Extension i j → {size : ℕ} → size ≡ getD sizes i 0 → {made : ℕ} → made ≡ copyNumber steps (done + 1)
+      → Put out from (copyText S (done + 1) made i size ++ underText leaf (done + 1) j size) left end
       → Put out from (stepDrawn S sizes question steps done (stepOf (getD steps done 0))) left end
   unfolding stepDrawn
-  drawn-extension k ez p = rw (← ew, ← es, k, ← el, ← ez) (rw add-one at p)
+  drawn-extension k ez em p = rw (← ew, ← es, k, ← el, ← ez) (rw (em, add-one) at p)
 
 module _ (S : Source) (sizes : List ℕ) (question : ℕ) (steps : List ℕ) (done : ℕ) {w : ℕ} (ew : w ≡ getD steps done 0) {s : Step} (es : s ≡ stepOf w) (out : List ℕ) (from : ℕ) where
   pub drawn-restart : s ≡ Restart → Put out from (stepDrawn S sizes question steps done (stepOf (getD steps done 0))) out from
@@ -239,11 +239,6 @@ pub draw-is : (S : Source) (steps : List ℕ) {first sizes : List ℕ} {r : ℕ}
     → {o₀ o₁ : List ℕ} {n₀ n₁ : ℕ} → Put o₀ n₀ (tableauText S sizes question own) o₁ n₁ → Put o₀ n₀ (drawText S steps) o₁ n₁
 unfolding drawText
 draw-is S steps h s eq eo p = rw (sized-whole (S .file) h s, eq, eo) at p
-
-take-within : (n : ℕ) (l : List ℕ) → length (take n l) ≤ n
-take-within zero l = omega arith
-take-within (suc n) [] = omega arith
-take-within (suc n) (x ∷ l) = let h = take-within n l in omega arith
 
 pub few-own : (steps : List ℕ) {own : List ℕ} → own ≡ take 199 steps → length own ≤ 199
 few-own steps e = rw e (take-within 199 steps)

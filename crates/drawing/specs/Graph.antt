@@ -10,40 +10,36 @@ use Rattle.words.specs.declared.Step.{Step}
 use Rattle.words.specs.declared.Step.the-variants.{Reduction, Extension, Restart, Malformed}
 use Rattle.text.specs.Quoted.{bytes}
 use Rattle.text.specs.Digits.{decimalText}
-use Rattle.drawing.specs.Leaves.{leftmost, ancestor}
-use Rattle.drawing.specs.Shown.{sizesIn, questionIn, literalCut, nameCut}
-use Rattle.drawing.specs.declared.leaf.Leaf.{Leaf}
-use Rattle.drawing.specs.declared.leaf.Leaf.the-variants.{Open, Nothing}
-
--- what is drawn from: the text and the index of its names, and the file
-pub record Source : Type 0 where
-  pub text : List ℕ
-  pub index : List ℕ
-  pub file : List ℕ
+use Rattle.leaves.specs.Leaves.{leftmost, ancestor}
+use Rattle.leaves.specs.Shown.{Source, sizesIn, questionIn, literalCut, nameCut}
+use Rattle.leaves.specs.Bound.{copyNumber, toldText}
+use Rattle.leaves.specs.declared.leaf.Leaf.{Leaf}
+use Rattle.leaves.specs.declared.leaf.Leaf.the-variants.{Open, Nothing}
 
 -- a node is a literal of the copy that a step hung
 unfoldable pub nodeText : ℕ → ℕ → List ℕ
 nodeText number literal = (bytes "n" ++ decimalText number) ++ (bytes "_" ++ decimalText literal)
 
--- a literal in its copy's box
-unfoldable pub labelText : Source → ℕ → ℕ → List ℕ
-labelText S clause literal = bytes " [label=\"" ++ (literalCut (S .text) (S .index) (S .file) clause literal ++ bytes "\"];\n")
+-- a literal in its copy's box; where it has variables, what it is under the bindings is a second line
+unfoldable pub labelText : Source → ℕ → ℕ → ℕ → List ℕ
+labelText S made clause literal =
+    bytes " [label=\"" ++ (literalCut (S .text) (S .index) (S .file) clause literal ++ (toldText S (bytes "\\n") [] made clause literal ++ bytes "\"];\n"))
 
-unfoldable pub literalLine : Source → ℕ → ℕ → ℕ → List ℕ
-literalLine S number clause literal = bytes "    " ++ (nodeText number literal ++ labelText S clause literal)
+unfoldable pub literalLine : Source → ℕ → ℕ → ℕ → ℕ → List ℕ
+literalLine S number made clause literal = bytes "    " ++ (nodeText number literal ++ labelText S made clause literal)
 
 -- so many literals from one on
-unfoldable pub literalLines : Source → ℕ → ℕ → ℕ → ℕ → List ℕ
-literalLines S number clause literal zero = []
-literalLines S number clause literal (suc more) = literalLine S number clause literal ++ literalLines S number clause (suc literal) more
+unfoldable pub literalLines : Source → ℕ → ℕ → ℕ → ℕ → ℕ → List ℕ
+literalLines S number made clause literal zero = []
+literalLines S number made clause literal (suc more) = literalLine S number made clause literal ++ literalLines S number made clause (suc literal) more
 
--- the box of a copy of a clause with so many literals
+-- the box of a copy of a clause with so many literals: the step that hangs it, and the copy's own number
 unfoldable pub boxText : List ℕ → List ℕ → ℕ → ℕ → List ℕ
 boxText text index number clause =
     (bytes "  subgraph cluster_" ++ decimalText number) ++ (bytes " {\n    label=\"" ++ (nameCut text index clause ++ bytes "\";\n"))
 
-unfoldable pub copyText : Source → ℕ → ℕ → ℕ → List ℕ
-copyText S number clause size = boxText (S .text) (S .index) number clause ++ (literalLines S number clause 0 size ++ bytes "  }\n")
+unfoldable pub copyText : Source → ℕ → ℕ → ℕ → ℕ → List ℕ
+copyText S number made clause size = boxText (S .text) (S .index) number clause ++ (literalLines S number made clause 0 size ++ bytes "  }\n")
 
 -- the closed pair's line is bold
 unfoldable pub strokeText : Bool → List ℕ
@@ -82,7 +78,7 @@ unfoldable pub stepDrawn : Source → List ℕ → ℕ → List ℕ → ℕ → 
 stepDrawn S sizes question steps done (Reduction height) =
     reductionText (leftmost sizes question steps done) (ancestor sizes question steps height (leftmost sizes question steps done))
 stepDrawn S sizes question steps done (Extension i j) =
-    copyText S (suc done) i (getD sizes i 0) ++ underText (leftmost sizes question steps done) (suc done) j (getD sizes i 0)
+    copyText S (suc done) (copyNumber steps (suc done)) i (getD sizes i 0) ++ underText (leftmost sizes question steps done) (suc done) j (getD sizes i 0)
 stepDrawn S sizes question steps done Restart = []
 stepDrawn S sizes question steps done Malformed = []
 
@@ -94,7 +90,7 @@ stepsDrawn S sizes question steps done (suc more) =
 
 -- the start, then the steps
 unfoldable pub copiesText : Source → List ℕ → ℕ → List ℕ → List ℕ
-copiesText S sizes question steps = copyText S 0 question (getD sizes question 0) ++ stepsDrawn S sizes question steps 0 (length steps)
+copiesText S sizes question steps = copyText S 0 0 question (getD sizes question 0) ++ stepsDrawn S sizes question steps 0 (length steps)
 
 unfoldable pub tableauText : Source → List ℕ → ℕ → List ℕ → List ℕ
 tableauText S sizes question steps =

@@ -1,5 +1,1 @@
-pub mod Leaves
-pub mod Shown
 pub mod Graph
-pub mod Verdicts
-pub mod Unreadable

@@ -5,11 +5,12 @@ ghost use Prim.Native.Nat.{suc, _+_, _≤_, _<_};
 ghost use lib.ListN.{length, getD, take};
 ghost use Rattle.text.specs.Put.{Put};
 ghost use Rattle.words.specs.Steps.{stepOf};
-ghost use Rattle.drawing.specs.Shown.{sizesIn, questionIn};
+ghost use Rattle.leaves.specs.Shown.{sizesIn, questionIn};
 ghost use Rattle.drawing.specs.Graph.{nodeText, labelText, literalLine, literalLines, boxText, copyText, strokeText, betweenText, lineText, linesText, underText, arrowText, reductionText, stepDrawn, stepsDrawn, copiesText, tableauText, drawText};
-use crate::leaf;
-use crate::leaf::Leaf;
-use crate::shown;
+use leaves::bound;
+use leaves::leaf;
+use leaves::leaf::Leaf;
+use leaves::shown;
 use text::part;
 use text::put;
 use words::Step;
@@ -26,17 +27,32 @@ fn label(
     text: &[u8],
     index: &[u32],
     file: &[u32],
+    bound: &[u32],
+    made: u32,
     clause: u32,
     literal: u32,
     out: &mut [u8],
     from: usize,
 ) -> usize
     requires { ⌜ length (now index) ≡ 16896 ⌝ }
-    ensures { λ r. ⌜ Put (now (out .entry)) from (labelText (record { text = now (text .entry); index = now (index .entry); file = now (file .entry) }) clause literal) (now (out .exit)) r ⌝ }
+    ensures { λ r. ⌜ Put (now (out .entry)) from (labelText (record { text = now (text .entry); index = now (index .entry); file = now (file .entry); bound = now (bound .entry) }) made clause literal) (now (out .exit)) r ⌝ }
 {
     let a = put::bytes(out, from, b" [label=\"");
     let b = shown::literal_cut(text, index, file, clause, literal, out, a);
-    put::bytes(out, b, b"\"];\n")
+    let c = bound::told(
+        text,
+        index,
+        file,
+        bound,
+        b"\\n",
+        b"",
+        made,
+        clause,
+        literal,
+        out,
+        b,
+    );
+    put::bytes(out, c, b"\"];\n")
 }
 
 // A literal in its copy's box.
@@ -44,37 +60,52 @@ fn literal_line(
     text: &[u8],
     index: &[u32],
     file: &[u32],
+    bound: &[u32],
     number: u32,
+    made: u32,
     clause: u32,
     literal: u32,
     out: &mut [u8],
     from: usize,
 ) -> usize
     requires { ⌜ length (now index) ≡ 16896 ⌝ }
-    ensures { λ r. ⌜ Put (now (out .entry)) from (literalLine (record { text = now (text .entry); index = now (index .entry); file = now (file .entry) }) number clause literal) (now (out .exit)) r ⌝ }
+    ensures { λ r. ⌜ Put (now (out .entry)) from (literalLine (record { text = now (text .entry); index = now (index .entry); file = now (file .entry); bound = now (bound .entry) }) number made clause literal) (now (out .exit)) r ⌝ }
 {
     let a = put::bytes(out, from, b"    ");
     let b = node(number, literal, out, a);
-    label(text, index, file, clause, literal, out, b)
+    label(text, index, file, bound, made, clause, literal, out, b)
 }
 
 fn literal_lines(
     text: &[u8],
     index: &[u32],
     file: &[u32],
+    bound: &[u32],
     number: u32,
+    made: u32,
     clause: u32,
     size: u32,
     out: &mut [u8],
     from: usize,
 ) -> usize
     requires { ⌜ length (now index) ≡ 16896 ⌝ }
-    ensures { λ r. ⌜ Put (now (out .entry)) from (literalLines (record { text = now (text .entry); index = now (index .entry); file = now (file .entry) }) number clause 0 size) (now (out .exit)) r ⌝ }
+    ensures { λ r. ⌜ Put (now (out .entry)) from (literalLines (record { text = now (text .entry); index = now (index .entry); file = now (file .entry); bound = now (bound .entry) }) number made clause 0 size) (now (out .exit)) r ⌝ }
 {
     let mut at = from;
     let mut literal: u32 = 0;
     while literal < size {
-        at = literal_line(text, index, file, number, clause, literal, out, at);
+        at = literal_line(
+            text,
+            index,
+            file,
+            bound,
+            number,
+            made,
+            clause,
+            literal,
+            out,
+            at,
+        );
         literal += 1;
     }
     at
@@ -102,17 +133,19 @@ fn copy(
     text: &[u8],
     index: &[u32],
     file: &[u32],
+    bound: &[u32],
     number: u32,
+    made: u32,
     clause: u32,
     size: u32,
     out: &mut [u8],
     from: usize,
 ) -> usize
     requires { ⌜ length (now index) ≡ 16896 ⌝ }
-    ensures { λ r. ⌜ Put (now (out .entry)) from (copyText (record { text = now (text .entry); index = now (index .entry); file = now (file .entry) }) number clause size) (now (out .exit)) r ⌝ }
+    ensures { λ r. ⌜ Put (now (out .entry)) from (copyText (record { text = now (text .entry); index = now (index .entry); file = now (file .entry); bound = now (bound .entry) }) number made clause size) (now (out .exit)) r ⌝ }
 {
     let a = box_head(text, index, number, clause, out, from);
-    let b = literal_lines(text, index, file, number, clause, size, out, a);
+    let b = literal_lines(text, index, file, bound, number, made, clause, size, out, a);
     put::bytes(out, b, b"  }\n")
 }
 
@@ -210,8 +243,10 @@ fn extension(
     text: &[u8],
     index: &[u32],
     file: &[u32],
+    bound: &[u32],
     leaf: Leaf,
     number: u32,
+    made: u32,
     clause: u32,
     entered: u32,
     size: u32,
@@ -219,9 +254,20 @@ fn extension(
     from: usize,
 ) -> usize
     requires { ⌜ length (now index) ≡ 16896 ⌝ }
-    ensures { λ r. ⌜ Put (now (out .entry)) from (copyText (record { text = now (text .entry); index = now (index .entry); file = now (file .entry) }) number clause size ++ underText leaf number entered size) (now (out .exit)) r ⌝ }
+    ensures { λ r. ⌜ Put (now (out .entry)) from (copyText (record { text = now (text .entry); index = now (index .entry); file = now (file .entry); bound = now (bound .entry) }) number made clause size ++ underText leaf number entered size) (now (out .exit)) r ⌝ }
 {
-    let a = copy(text, index, file, number, clause, size, out, from);
+    let a = copy(
+        text,
+        index,
+        file,
+        bound,
+        number,
+        made,
+        clause,
+        size,
+        out,
+        from,
+    );
     under(leaf, number, entered, size, out, a)
 }
 
@@ -229,6 +275,7 @@ fn step(
     text: &[u8],
     index: &[u32],
     file: &[u32],
+    bound: &[u32],
     sizes: &[u32],
     question: u32,
     steps: &[u32],
@@ -237,7 +284,7 @@ fn step(
     from: usize,
 ) -> usize
     requires { ⌜ (length (now index) ≡ 16896) × (done < 4294967295) ⌝ }
-    ensures { λ r. ⌜ Put (now (out .entry)) from (stepDrawn (record { text = now (text .entry); index = now (index .entry); file = now (file .entry) }) (now (sizes .entry)) question (now (steps .entry)) done (stepOf (getD (now (steps .entry)) done 0))) (now (out .exit)) r ⌝ }
+    ensures { λ r. ⌜ Put (now (out .entry)) from (stepDrawn (record { text = now (text .entry); index = now (index .entry); file = now (file .entry); bound = now (bound .entry) }) (now (sizes .entry)) question (now (steps .entry)) done (stepOf (getD (now (steps .entry)) done 0))) (now (out .exit)) r ⌝ }
 {
     let leaf = leaf::leftmost(sizes, question, steps, done);
     match decode(leaf::at(steps, done)) {
@@ -251,8 +298,10 @@ fn step(
             text,
             index,
             file,
+            bound,
             leaf,
             done + 1,
+            bound::copy_number(steps, done + 1),
             clause,
             entered,
             leaf::at(sizes, clause),
@@ -268,6 +317,7 @@ fn steps_drawn(
     text: &[u8],
     index: &[u32],
     file: &[u32],
+    bound: &[u32],
     sizes: &[u32],
     question: u32,
     steps: &[u32],
@@ -275,12 +325,23 @@ fn steps_drawn(
     from: usize,
 ) -> usize
     requires { ⌜ (length (now index) ≡ 16896) × (length (now steps) ≤ 199) ⌝ }
-    ensures { λ r. ⌜ Put (now (out .entry)) from (stepsDrawn (record { text = now (text .entry); index = now (index .entry); file = now (file .entry) }) (now (sizes .entry)) question (now (steps .entry)) 0 (length (now (steps .entry)))) (now (out .exit)) r ⌝ }
+    ensures { λ r. ⌜ Put (now (out .entry)) from (stepsDrawn (record { text = now (text .entry); index = now (index .entry); file = now (file .entry); bound = now (bound .entry) }) (now (sizes .entry)) question (now (steps .entry)) 0 (length (now (steps .entry)))) (now (out .exit)) r ⌝ }
 {
     let mut at = from;
     let mut i = 0;
     while i < steps.len() {
-        at = step(text, index, file, sizes, question, steps, i as u32, out, at);
+        at = step(
+            text,
+            index,
+            file,
+            bound,
+            sizes,
+            question,
+            steps,
+            i as u32,
+            out,
+            at,
+        );
         i += 1;
     }
     at
@@ -291,6 +352,7 @@ fn copies(
     text: &[u8],
     index: &[u32],
     file: &[u32],
+    bound: &[u32],
     sizes: &[u32],
     question: u32,
     steps: &[u32],
@@ -298,17 +360,18 @@ fn copies(
     from: usize,
 ) -> usize
     requires { ⌜ (length (now index) ≡ 16896) × (length (now steps) ≤ 199) ⌝ }
-    ensures { λ r. ⌜ Put (now (out .entry)) from (copiesText (record { text = now (text .entry); index = now (index .entry); file = now (file .entry) }) (now (sizes .entry)) question (now (steps .entry))) (now (out .exit)) r ⌝ }
+    ensures { λ r. ⌜ Put (now (out .entry)) from (copiesText (record { text = now (text .entry); index = now (index .entry); file = now (file .entry); bound = now (bound .entry) }) (now (sizes .entry)) question (now (steps .entry))) (now (out .exit)) r ⌝ }
 {
     let size = leaf::at(sizes, question);
-    let a = copy(text, index, file, 0, question, size, out, from);
-    steps_drawn(text, index, file, sizes, question, steps, out, a)
+    let a = copy(text, index, file, bound, 0, 0, question, size, out, from);
+    steps_drawn(text, index, file, bound, sizes, question, steps, out, a)
 }
 
 fn tableau(
     text: &[u8],
     index: &[u32],
     file: &[u32],
+    bound: &[u32],
     sizes: &[u32],
     question: u32,
     steps: &[u32],
@@ -316,14 +379,14 @@ fn tableau(
     from: usize,
 ) -> usize
     requires { ⌜ (length (now index) ≡ 16896) × (length (now steps) ≤ 199) ⌝ }
-    ensures { λ r. ⌜ Put (now (out .entry)) from (tableauText (record { text = now (text .entry); index = now (index .entry); file = now (file .entry) }) (now (sizes .entry)) question (now (steps .entry))) (now (out .exit)) r ⌝ }
+    ensures { λ r. ⌜ Put (now (out .entry)) from (tableauText (record { text = now (text .entry); index = now (index .entry); file = now (file .entry); bound = now (bound .entry) }) (now (sizes .entry)) question (now (steps .entry))) (now (out .exit)) r ⌝ }
 {
     let a = put::bytes(
         out,
         from,
         b"digraph tableau {\n  ordering=out;\n  node [shape=box];\n  edge [arrowhead=none];\n",
     );
-    let b = copies(text, index, file, sizes, question, steps, out, a);
+    let b = copies(text, index, file, bound, sizes, question, steps, out, a);
     put::bytes(out, b, b"}\n")
 }
 
@@ -332,12 +395,13 @@ pub fn draw(
     text: &[u8],
     index: &[u32],
     file: &[u32],
+    bound: &[u32],
     steps: &[u32],
     out: &mut [u8],
     from: usize,
 ) -> usize
     requires { ⌜ length (now index) ≡ 16896 ⌝ }
-    ensures { λ r. ⌜ Put (now (out .entry)) from (drawText (record { text = now (text .entry); index = now (index .entry); file = now (file .entry) }) (now (steps .entry))) (now (out .exit)) r ⌝ }
+    ensures { λ r. ⌜ Put (now (out .entry)) from (drawText (record { text = now (text .entry); index = now (index .entry); file = now (file .entry); bound = now (bound .entry) }) (now (steps .entry))) (now (out .exit)) r ⌝ }
 {
     let mut sizes = [0u32; 512];
     shown::sizes(file, &mut sizes);
@@ -345,6 +409,7 @@ pub fn draw(
         text,
         index,
         file,
+        bound,
         &sizes,
         shown::question(file),
         part::front(steps, 199),

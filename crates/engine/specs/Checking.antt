@@ -7,16 +7,17 @@ use Prim.Native.Nat.{ℕ, _+_, _-_, _≤_, _<_}
 use lib.Dec.{eqb}
 use lib.ListN.{length, getElem?}
 use Rattle.words.specs.declared.Step.{Step}
+use Rattle.words.specs.declared.Step.the-variants.{Reduction, Extension, Restart, Malformed as AMalformed}
 use Rattle.table.specs.File.{judge, tableIn}
+use Rattle.table.specs.Decode.{clauseOf}
 use Rattle.table.specs.Syntax.{Clause, allClauses}
 use Rattle.rules.specs.Setting.{profileOf, readStep, readSteps}
 use Rattle.rules.specs.Comparison.{a-clash, a-circle}
 use Rattle.rules.specs.Verdict.{Refusal, malformed, not-allowed, not-unified, statusOf}
 use Rattle.rules.specs.Machinery.Play.{Play, Performed, goes-on, not-possible, clashes, circular, perform, refusal, passed, stopped, check}
-use Rattle.unification.specs.Places.{mostVariables}
-use Rattle.unification.specs.State.{numberedAt, literalAt, parentAt}
+use Rattle.unification.specs.State.{startAt, copiesOf, literalAt, parentAt, ownWords}
 use Rattle.tableaux.specs.Leaves.{chain, leafAt}
-use Rattle.tableaux.specs.Ready.{Ready, Stands, NotesKept}
+use Rattle.tableaux.specs.Ready.{Ready, Stands, Later}
 use Rattle.tableaux.specs.Entering.{Enters}
 use Rattle.index.specs.Noting.{Indexed}
 use Rattle.index.specs.declared.entries.Scan.{Scan}
@@ -72,19 +73,27 @@ abbrev pub Located : List ℕ → ℕ → ℕ → Candidate → Type 0
 Located f clause literal (Entry s) = LocatedAt f clause literal s
 Located f clause literal Done = (c : Clause) → getElem? (allClauses (tableIn f)) clause ≡ some c → getElem? (c .literals) literal ≡ none
 
+-- the copy that a step makes, if it makes one, and its clause
+abbrev pub Copies : List ℕ → List ℕ → List ℕ → Step → Type 0
+Copies f m m′ (Reduction height) = copiesOf m′ ≡ copiesOf m
+Copies f m m′ (Extension i j) =
+    (copiesOf m′ ≡ copiesOf m + 1) × (getElem? (allClauses (tableIn f)) i ≡ some (clauseOf (ownWords f (startAt m′ (copiesOf m)))))
+Copies f m m′ Restart = (copiesOf m′ ≡ copiesOf m + 1) × (tableIn f .question ≡ clauseOf (ownWords f (startAt m′ (copiesOf m))))
+Copies f m m′ AMalformed = ⊥
+
 -- the tableau goes on at a place
-pub record Moved (f m m′ : List ℕ) (place next : Place) : Type 0 where
+pub record Moved (f m m′ : List ℕ) (s : Step) (place next : Place) : Type 0 where
   pub ready : Ready f m′ next
   pub steps : next .steps ≡ place .steps + 1
-  pub marks : (v : ℕ) → v < mostVariables → numberedAt m′ v ≡ numberedAt m v
-  pub notes : NotesKept m m′
+  pub later : Later m m′ place
+  pub copies : Copies f m m′ s
 
-abbrev pub Moves : List ℕ → List ℕ → List ℕ → Place → Judged → Type 0
-Moves f m m′ place (On next) = Moved f m m′ place next
-Moves f m m′ place Malformed = Unit {0}
-Moves f m m′ place NotAllowed = Unit {0}
-Moves f m m′ place Clashes = Unit {0}
-Moves f m m′ place Circular = Unit {0}
+abbrev pub Moves : List ℕ → List ℕ → List ℕ → Step → Place → Judged → Type 0
+Moves f m m′ s place (On next) = Moved f m m′ s place next
+Moves f m m′ s place Malformed = Unit {0}
+Moves f m m′ s place NotAllowed = Unit {0}
+Moves f m m′ s place Clashes = Unit {0}
+Moves f m m′ s place Circular = Unit {0}
 
 -- a play that the work words stand for
 abbrev pub PlayAt : List ℕ → List ℕ → Place → Play → Type 0
@@ -108,7 +117,7 @@ restartsLeaf f m conditions place = cond (eqb (place .head) 0) false (profileOf 
 
 -- one step at a place, for every play that the work words stand for
 pub record Checked (f m m′ : List ℕ) (conditions : Conditions) (place : Place) (word : ℕ) (r : Judged) : Type 0 where
-  pub moves : Moves f m m′ place r
+  pub moves : Moves f m m′ (readFor conditions word) place r
   pub says : (p : Play) → PlayAt f m place p → Says f m′ (readFor conditions word) r (perform (settingFor f conditions) p (readFor conditions word))
 
 -- the verdict on all steps

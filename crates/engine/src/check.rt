@@ -124,7 +124,7 @@ fn body_of(file: &[u32]) -> u32
 }
 
 // The literals of the body are noted, where the proof is long.
-fn prepare(file: &[u32], work: &mut [u32], noted: bool)
+pub fn prepare(file: &[u32], work: &mut [u32], noted: bool)
     requires { ⌜ (length (now work) ≡ workWords) × (judge (now file) .status ≡ 0) ⌝ }
     ensures { λ _. ⌜ NotedFor noted (now (file .entry)) (now (work .exit)) ⌝ }
 {
@@ -209,7 +209,7 @@ fn restart(
     Judged::On(tableau::restart(file, work, place, question, word))
 }
 
-fn step_taken(
+pub fn step_taken(
     file: &[u32],
     work: &mut [u32],
     noted: bool,

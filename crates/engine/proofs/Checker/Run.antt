@@ -62,7 +62,7 @@ module _ (f : List ℕ) (accepts : judge f .status ≡ 0) where
   question-clause e = rw e placed
 
   module _ {m : List ℕ} {question : ℕ} {place : Place} (e : question ≡ judge f .question) (b : Begun f m question place) where
-    begun-stands : PlayAt f m place (begin (tableIn f))
+    pub begun-stands : PlayAt f m place (begin (tableIn f))
     unfolding begin start bindingsOf questionsAmong
     begun-stands =
         let asked = rw (question-start f accepts) at (question-placed f (length f - 4) (omega arith) (body-readable f accepts) .1) in
@@ -102,15 +102,15 @@ module _ {f m : List ℕ} {conditions : Conditions} {noted : Bool} {offered : Li
     unfolding onwards
     run-on {m′} {j} k {next} e =
         let here : Checked f m m′ conditions place (getD offered i 0) (On next) = rw e at k in
-        let moved : Moved f m m′ place next = here .moves in
+        let moved : Moved f m m′ (readFor conditions (getD offered i 0)) place next = here .moves in
         let goes = here .says (g .play) (g .stands) in
         record {
           ready = moved .ready;
-          unnumbered = λ v l. moved .marks v l ∙ g .unnumbered v l;
+          unnumbered = λ v l. moved .later .marks v l ∙ g .unnumbered v l;
           steps = omega (arith, moved .steps, g .steps);
           within = omega arith;
           play = goes .0;
-          indexed = λ y. indexed-same (moved .ready .good .size) (moved .notes) (g .indexed y);
+          indexed = λ y. indexed-same (moved .ready .good .size) (moved .later .notes) (g .indexed y);
           stands = goes .2;
           same = same-step ∙ rw (goes .1, add-one);
         }

@@ -194,17 +194,17 @@ judged-says f m next s o Made c = c
 judged-says f m next s o Clash c = c
 judged-says f m next s o Circle c = c
 
-judged-moves : (f m m′ : List ℕ) (place next : Place) (meeting : Meeting) → (meeting ≡ Made → Moved f m m′ place next) → Moves f m m′ place (judgedBy meeting next)
-judged-moves f m m′ place next Made h = h refl
-judged-moves f m m′ place next Clash h = tt
-judged-moves f m m′ place next Circle h = tt
+judged-moves : (f m m′ : List ℕ) (s : Step) (place next : Place) (meeting : Meeting) → (meeting ≡ Made → Moved f m m′ s place next) → Moves f m m′ s place (judgedBy meeting next)
+judged-moves f m m′ s place next Made h = h refl
+judged-moves f m m′ s place next Clash h = tt
+judged-moves f m m′ s place next Circle h = tt
 
 module _ {f m m′ : List ℕ} {place next : Place} where
-  judged : (conditions : Conditions) (word : ℕ) (meeting : Meeting) {j : Judged} → j ≡ judgedBy meeting next → (meeting ≡ Made → Moved f m m′ place next)
+  judged : (conditions : Conditions) (word : ℕ) (meeting : Meeting) {j : Judged} → j ≡ judgedBy meeting next → (meeting ≡ Made → Moved f m m′ (readFor conditions word) place next)
       → ((p : Play) → PlayAt f m place p → Comes f m′ (judge f .question) next meeting (perform (settingFor f conditions) p (readFor conditions word)))
       → Checked f m m′ conditions place word j
   judged conditions word meeting e h c =
-      rw e (record { moves = judged-moves f m m′ place next meeting h; says = λ p s. judged-says f m′ next (readFor conditions word) (perform (settingFor f conditions) p (readFor conditions word)) meeting (c p s) })
+      rw e (record { moves = judged-moves f m m′ (readFor conditions word) place next meeting h; says = λ p s. judged-says f m′ next (readFor conditions word) (perform (settingFor f conditions) p (readFor conditions word)) meeting (c p s) })
 
 -- the leftmost leaf, and the ancestor at a height by the references from the leaf up
 module _ {f m : List ℕ} {place : Place} (ready : Ready f m place) (n : place .head ≡ 0 → ⊥) where
@@ -313,7 +313,7 @@ module _ {f m : List ℕ} {place : Place} (ready : Ready f m place) (word height
               let fitting = fits-other small (stands-literate f m _ (leaf-stands ready n)) (stands-literate f m r other-stands) other-sign in
               let there = above-some ready n height (some-height conditions word s) (sym g ∙ e) in
               judged conditions word (taken .meeting) ej
-              (λ _. record { ready = h .ready; steps = h .steps; marks = h .stepping .later .marks; notes = h .stepping .later .notes })
+              (λ _. record { ready = h .ready; steps = h .steps; later = h .stepping .later; copies = rw s (h .copies) })
               (λ p st. rw s (reduction-comes (settingFor f conditions) ready (omega arith) h p st height there fitting))
 
 -- the leaf's word can be read
@@ -414,7 +414,7 @@ module _ {f m : List ℕ} {place : Place} (ready : Ready f m place) (conditions 
                 let fitting = fits-other small leaf-literate literate (copy-word scan-literal m′ (copiesOf m) (x .copied .starts) ∙ entered-sign) in
                 let may = one-of (conditions .restarts) (leaf ready n .literal .negative) (sym (leaf-let ready n conditions) ∙ let-so) in
                 judged conditions word (taken .meeting) ej
-                (λ e. record { ready = x .hung e .ready; steps = x .hung e .steps; marks = x .copied .stepping .later .marks; notes = x .copied .stepping .later .notes })
+                (λ e. record { ready = x .hung e .ready; steps = x .hung e .steps; later = x .copied .stepping .later; copies = rw (s, x .copied .starts) (x .copied .copies, scan-clause) })
                 (λ p st. rw scan-step (extension-comes (settingFor f conditions) ready (omega arith) scan scan-enters x p st (may, omega (arith, st .extensions)) fitting))
 
 -- whether the leaf is restarted, with premises as the code has them
@@ -472,6 +472,6 @@ module _ {f m : List ℕ} {place : Place} (ready : Ready f m place) (conditions 
             let h = there in
             let may = sym (leaf-let ready h conditions) ∙ e in
             record {
-              moves = record { ready = x .hung .ready; steps = x .hung .steps; marks = x .copied .stepping .later .marks; notes = x .copied .stepping .later .notes };
+              moves = record { ready = x .hung .ready; steps = x .hung .steps; later = x .copied .stepping .later; copies = rw (s, x .copied .starts) (x .copied .copies, placed .1) };
               says = λ p st. rw (s, ← eq) (restart-comes (settingFor f conditions) ready (omega arith) (placed .0) (placed .1) x p (rw eq st) (may, omega (arith, st .extensions)));
             }

@@ -3,25 +3,13 @@ use Rattle.text.proofs.Putting.{then}
 use Rattle.drawing.proofs.graph.extension.Statement.{statement}
 use Rattle.drawing.proofs.graph.extension.Tie as tie
 
-ruleset all = (needs, then)
-
-copy-requires : tie.Need-copy-requires
-copy-requires c κs = search all
-
-under-requires : tie.Need-under-requires
-under-requires c κs = search all
-
-same-length : tie.Need-same-length
-same-length c = search all
-
-returns : tie.Need-returns
-returns c = search all
+ruleset all = needs
 
 pub extension-spec : {M : Type 1} → statement M
 extension-spec =
     tie.close
     (tie.spec
-    copy-requires
-    under-requires
-    same-length
-    returns)
+    (λ c κs. search all)
+    (λ c κs. search all)
+    (λ c. search all)
+    (λ c. then (c .before .before .before .before .before .before .copy .ensures) (c .before .before .under .ensures)))

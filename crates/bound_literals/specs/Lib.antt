@@ -1,0 +1,3 @@
+pub mod Bound
+pub mod Held
+pub mod BoundCases

@@ -1,0 +1,51 @@
+use borrow.Author.Needs.{needs}
+use Rattle.leaves.proofs.leaf.hung.Statement.{statement}
+use Rattle.leaves.proofs.leaf.hung.Tie as tie
+use Rattle.leaves.proofs.Leaves.{hung-laws}
+
+ruleset all = (needs, hung-laws)
+
+decode-requires : tie.Need-decode-requires
+decode-requires c κs = search all
+
+enum-told : tie.Need-enum-told
+enum-told c = search all
+
+enum-known-clause : tie.Need-enum-known-clause
+enum-known-clause c = search all
+
+other-requires : tie.Need-other-requires
+other-requires c κs = search all
+
+enum-told-2 : tie.Need-enum-told-2
+enum-told-2 c = search all
+
+enum-told-3 : tie.Need-enum-told-3
+enum-told-3 c = search all
+
+returns : tie.Need-returns
+returns c = search all
+
+returns-2 : tie.Need-returns-2
+returns-2 c = search all
+
+returns-3 : tie.Need-returns-3
+returns-3 c = search all
+
+returns-4 : tie.Need-returns-4
+returns-4 c = search all
+
+pub hung-spec : {M : Type 1} → statement M
+hung-spec =
+    tie.close
+    (tie.spec
+    decode-requires
+    enum-told
+    enum-known-clause
+    other-requires
+    enum-told-2
+    enum-told-3
+    returns
+    returns-2
+    returns-3
+    returns-4)

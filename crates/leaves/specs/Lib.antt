@@ -1,0 +1,3 @@
+pub mod Leaves
+pub mod Shown
+pub mod Bound

@@ -1,0 +1,43 @@
+use borrow.Author.Needs.{needs}
+use Rattle.verdicts.proofs.Saying.{of-is}
+use Rattle.verdicts.proofs.verdict.of.Statement.{statement}
+use Rattle.verdicts.proofs.verdict.of.Tie as tie
+
+ruleset all = (needs, of-is)
+
+slice-aggregate-field : tie.Need-slice-aggregate-field
+slice-aggregate-field c = search all
+
+field-requires : tie.Need-field-requires
+field-requires c κs = search all
+
+slice-aggregate-bytes : tie.Need-slice-aggregate-bytes
+slice-aggregate-bytes c = search all
+
+bytes-requires : tie.Need-bytes-requires
+bytes-requires c κs = search all
+
+clause-requires : tie.Need-clause-requires
+clause-requires c κs = search all
+
+hung-requires : tie.Need-hung-requires
+hung-requires c κs = search all
+
+same-length : tie.Need-same-length
+same-length c = search all
+
+returns : tie.Need-returns
+returns c = search all
+
+pub of-spec : {M : Type 1} → statement M
+of-spec =
+    tie.close
+    (tie.spec
+    slice-aggregate-field
+    field-requires
+    slice-aggregate-bytes
+    bytes-requires
+    clause-requires
+    hung-requires
+    same-length
+    returns)
