@@ -4,13 +4,7 @@ ghost use lib.ListN.{length};
 use crate::arguments;
 use crate::arguments::Options;
 use crate::files;
-use assistant::refusal;
 use assistant::result;
-use clausetext::judge::Verdict;
-use clausetext::judge::judge_text;
-use hukolearu::Outcome;
-use hukolearu::calls;
-use hukolearu::status;
 use libc::STDERR_FILENO;
 use libc::STDOUT_FILENO;
 use naming::lookup;
@@ -18,11 +12,54 @@ use naming::show;
 use requests::piece;
 use requests::piece::Number;
 use text::part;
-use text::put;
 use tptp::TextRead;
 use words::fields;
 use words::fields::wide;
 
+// Room for all that is written of a question.
+fn sheet() -> [u8; 1048576] {
+    [0; 1048576]
+}
+
+pub fn write(fd: i32, page: &[u8], n: usize) {
+    io::write_all(fd, part::front_bytes(page, n));
+    if page.len() < n {
+        io::write_all(fd, b" ...\n");
+    }
+}
+
+// `ask FILE`.
+pub fn ask(o: Options) {
+    if !o.good {
+        arguments::usage();
+        return;
+    }
+    let mut space = io::buffer();
+    let n = arguments::last(&mut space);
+    let name = part::front_bytes(&space, n);
+    let mut text = files::text_buffer();
+    let got = files::read(name, &mut text);
+    if !got.good {
+        return;
+    }
+    let asked = answering::Options {
+        limit: o.limit,
+        budget: o.budget,
+        proof: o.proof,
+    };
+    let watched = libc::isatty(STDERR_FILENO) == 1;
+    let mut out = sheet();
+    let m = answering::ask::ask(
+        watched,
+        asked,
+        name,
+        part::front_bytes(&text, got.bytes),
+        &mut out,
+    );
+    write(STDOUT_FILENO, &out, m);
+}
+
+// What the other commands share.
 pub fn proof_buffer() -> [u32; 199]
     ensures { λ r. ⌜ 199 ≡ length r ⌝ }
 {
@@ -48,40 +85,10 @@ pub fn page() -> [u8; 262144]
     [0; 262144]
 }
 
-fn questions(text: &[u8]) -> usize {
-    let verdict = judge_text(text);
-    match verdict {
-        Verdict::Wrong(_) => 0,
-        Verdict::Fine(_, questions) => questions,
-    }
-}
-
-pub fn write(fd: i32, page: &[u8], n: usize) {
-    io::write_all(fd, part::front_bytes(page, n));
-    if page.len() < n {
-        io::write_all(fd, b" ...\n");
-    }
-}
-
 // Says why a text is refused.
 pub fn refuse(fd: i32, name: &[u8], text: &[u8], read: TextRead) {
     let mut out = page();
-    if read.status == 17 {
-        let n = refusal::wrong(&mut out, 0, name, text, wide(read.place));
-        write(fd, &out, n);
-        return;
-    }
-    if read.status == 18 {
-        let n = refusal::unasked(&mut out, 0, name, text, questions(text));
-        write(fd, &out, n);
-        return;
-    }
-    if read.status == 9 {
-        let n = refusal::positive(&mut out, 0, name, text);
-        write(fd, &out, n);
-        return;
-    }
-    let n = refusal::over(&mut out, 0, name);
+    let n = answering::refuse::refusal(&mut out, 0, name, text, read);
     write(fd, &out, n);
 }
 
@@ -91,78 +98,42 @@ pub fn status_line(name: &[u8], status: &[u8]) {
     write(STDOUT_FILENO, &out, n);
 }
 
-// What the search bound by bound came to: the bound that it ended at, the tries of all bounds, and what it said there.
-struct Looked {
-    bound: u32,
-    tries: u32,
-    outcome: Outcome,
-}
-
-fn line_buffer() -> [u8; 128]
-    ensures { λ r. ⌜ 128 ≡ length r ⌝ }
-{
-    [0; 128]
-}
-
-// Bound by bound, on a terminal.
-fn tell_progress(bound: u32, tries: u32) {
-    if libc::isatty(STDERR_FILENO) != 1 {
-        return;
-    }
-    let mut line = line_buffer();
-    let a = put::field(&mut line, 0, b"bound ", bound);
-    let b = put::field(&mut line, a, b": none, tries so far ", tries);
-    let c = put::byte(&mut line, b, b'\n');
-    io::write_all(STDERR_FILENO, part::front_bytes(&line, c));
-}
-
-// Tries that are left of a budget.
-fn left(budget: u32, tries: u32) -> u32 {
-    if budget < tries {
+// The literals of the question.
+pub fn atoms(file: &[u32]) -> usize {
+    let question = lookup_question(file);
+    if question.len() == 0 {
         return 0;
     }
-    budget - tries
+    wide(fields::literals(question[0]))
 }
 
-fn sum(a: u32, b: u32) -> u32 {
-    let both = a as u64 + b as u64;
-    if both > 4294967295 {
-        return 4294967295;
+pub fn lookup_question(file: &[u32]) -> &[u32] {
+    if file.len() < 4 {
+        return part::front(file, 0);
     }
-    both as u32
+    let clauses = wide(file[file.len() - 3]);
+    if clauses == 0 {
+        return part::front(file, 0);
+    }
+    table::file::lookup(file, clauses - 1)
 }
 
-// Bounds 0, 1, 2 up to the limit with one budget for all, as the call of the smallest bound has them.
-fn look(
-    file: &[u32],
-    limit: u32,
-    budget: u32,
-    proof: &mut [u32],
-    answer: &mut [u32],
-    work: &mut [u32],
-) -> Looked {
-    let mut bound: u32 = 0;
-    let mut tries: u32 = 0;
-    while bound < limit {
-        let outcome = calls::search(file, bound, left(budget, tries), proof, answer, work);
-        tries = sum(tries, outcome.tries);
-        if outcome.status != status::NONE_FOUND {
-            return Looked {
-                bound,
-                tries,
-                outcome,
-            };
-        }
-        tell_progress(bound, tries);
-        bound += 1;
+// The answer in names, which has at most 4,096 words.
+pub fn show_answer(
+    text: &[u8],
+    index: &[u32],
+    atoms: usize,
+    words: &[u32],
+    out: &mut [u8],
+    at: usize,
+) -> usize {
+    if index.len() != 16896 {
+        return at;
     }
-    let outcome = calls::search(file, bound, left(budget, tries), proof, answer, work);
-    tries = sum(tries, outcome.tries);
-    Looked {
-        bound,
-        tries,
-        outcome,
+    if words.len() > 4096 {
+        return at;
     }
+    show::words(text, index, part::front(index, 0), atoms, words, out, at)
 }
 
 // Room for the clauses behind a proof: at most 200 lines.
@@ -223,152 +194,4 @@ pub fn tell_behind(text: &[u8], index: &[u32], file: &[u32], bound: u32, steps: 
         b"Clauses behind it, and how often each was used:\n",
     );
     behind_lines(text, index, part::front_bytes(&listing, wide(listed.bytes)));
-}
-
-// The literals of the question.
-pub fn atoms(file: &[u32]) -> usize {
-    let question = lookup_question(file);
-    if question.len() == 0 {
-        return 0;
-    }
-    wide(fields::literals(question[0]))
-}
-
-pub fn lookup_question(file: &[u32]) -> &[u32] {
-    if file.len() < 4 {
-        return part::front(file, 0);
-    }
-    let clauses = wide(file[file.len() - 3]);
-    if clauses == 0 {
-        return part::front(file, 0);
-    }
-    table::file::lookup(file, clauses - 1)
-}
-
-// The answer in names, which has at most 4,096 words.
-pub fn show_answer(
-    text: &[u8],
-    index: &[u32],
-    atoms: usize,
-    words: &[u32],
-    out: &mut [u8],
-    at: usize,
-) -> usize {
-    if index.len() != 16896 {
-        return at;
-    }
-    if words.len() > 4096 {
-        return at;
-    }
-    show::words(text, index, part::front(index, 0), atoms, words, out, at)
-}
-
-// The proof in a form that can be read: a step a line.
-fn tell_proof(text: &[u8], index: &[u32], steps: &[u32]) {
-    let mut out = page();
-    let n = written_proofs::write::proof(text, part::rest(index, 8192), steps, &mut out, 0);
-    io::write_all(STDOUT_FILENO, b"Proof:\n");
-    write(STDOUT_FILENO, &out, n);
-}
-
-fn tell_found(
-    name: &[u8],
-    text: &[u8],
-    file: &[u32],
-    proved: bool,
-    l: Looked,
-    steps: &[u32],
-    words: &[u32],
-) {
-    let o = l.outcome;
-    let mut index = index_buffer();
-    naming::index::index(text, &mut index);
-    let mut out = page();
-    let a = result::found(&mut out, 0, o.disjuncts, l.bound, l.tries);
-    let b = show_answer(text, &index, atoms(file), words, &mut out, a);
-    let c = put::byte(&mut out, b, b'\n');
-    write(STDOUT_FILENO, &out, c);
-    tell_behind(text, &index, file, l.bound, steps);
-    if proved {
-        tell_proof(text, &index, steps);
-    }
-    status_line(name, b"Unsatisfiable");
-}
-
-// The result in plain words, and a line for other tools.
-fn tell(
-    name: &[u8],
-    text: &[u8],
-    file: &[u32],
-    limit: u32,
-    proved: bool,
-    l: Looked,
-    proof: &[u32],
-    answer: &[u32],
-) {
-    let o = l.outcome;
-    let mut out = page();
-    if o.status == status::DONE {
-        tell_found(
-            name,
-            text,
-            file,
-            proved,
-            l,
-            part::front(proof, wide(o.proof)),
-            part::front(answer, wide(o.answer)),
-        );
-        return;
-    }
-    if o.status == status::NONE_FOUND {
-        let n = result::none(&mut out, 0, limit, l.tries);
-        write(STDOUT_FILENO, &out, n);
-        status_line(name, b"GaveUp");
-        return;
-    }
-    if o.status == status::RAN_OUT {
-        let n = result::ran_out(&mut out, 0, l.bound, l.tries);
-        write(STDOUT_FILENO, &out, n);
-        status_line(name, b"ResourceOut");
-        return;
-    }
-    let n = result::too_long(&mut out, 0, l.bound, l.tries);
-    write(STDOUT_FILENO, &out, n);
-    status_line(name, b"Unsatisfiable");
-}
-
-fn answer(o: Options, name: &[u8], text: &[u8], file: &[u32]) {
-    let mut proof = proof_buffer();
-    let mut words = answer_buffer();
-    let mut work = files::file_buffer();
-    let l = look(file, o.limit, o.budget, &mut proof, &mut words, &mut work);
-    tell(name, text, file, o.limit, o.proof, l, &proof, &words);
-}
-
-fn ask_text(o: Options, name: &[u8], text: &[u8]) {
-    let mut file = files::file_buffer();
-    let read = tptp::call::read(text, &mut file);
-    if read.status != 0 {
-        refuse(STDOUT_FILENO, name, text, read);
-        status_line(name, b"InputError");
-        return;
-    }
-    answer(o, name, text, part::front(&file, wide(read.words)));
-}
-
-// `ask FILE`.
-pub fn ask(o: Options) {
-    if !o.good {
-        arguments::usage();
-        return;
-    }
-    let mut space = io::buffer();
-    let n = arguments::last(&mut space);
-    let name = part::front_bytes(&space, n);
-    let mut text = files::text_buffer();
-    let got = files::read(name, &mut text);
-    if !got.good {
-        return;
-    }
-    ask_text(o, name, part::front_bytes(&text, got.bytes));
 }
