@@ -80,6 +80,16 @@ module _ (file : List ℕ) (ok : judge file .status ≡ 0) where
         let first : getD (take (end - at) (drop at file)) 0 0 ≡ getD file (at + 0) 0 = getD-take (end - at) (drop at file) 0 0 (omega arith) ∙ getD-drop at file 0 0 in
         ap (λ (i : ℕ). getD file i 0) (sym (add-zero at)) ∙ sym first ∙ ap (λ (ws : List ℕ). getD ws 0 0) (question-words file at ready end refl)
 
+    pub size-fits : {f v : ℕ} → f ≡ followingOf (getD file at 0) → v ≡ f → Fits w64 (v + 1)
+    size-fits ef ev = record { fits = omega (arith, ef, ev) }
+
+    pub words-are : {f v : ℕ} → f ≡ followingOf (getD file at 0) → v ≡ f → {rest front : List ℕ} → rest ≡ drop at file → front ≡ take (v + 1) rest
+        → front ≡ clauseWords (tableIn file .question)
+    words-are {f} {v} ef ev er et =
+        let end = at + (followingOf (getD file at 0) + 1) in
+        let n : v + 1 ≡ end - at = omega (arith, ef, ev) in
+        et ∙ rw (er, n) (question-words file at ready end refl)
+
     pub literals-are : {v w : ℕ} → v ≡ w → w ≡ literalsOf (getD file at 0) → v ≡ length (q .literals)
     literals-are o l =
         let h = question-within file at ready in
@@ -87,5 +97,7 @@ module _ (file : List ℕ) (ok : judge file .status ≡ 0) where
         ∙ clause-literals (length (q .literals)) (q .variables) (length (literalsWords (q .literals))) (omega (arith, h .few)) (omega (arith, h .variables)) (omega (arith, h .follow)) (q .restricted)
 
 pub ruleset number-laws = (three-back, count-there, number-some, number-is)
+
+pub ruleset word-laws = (four-back, place-there, place-fits, question-there, size-fits, words-are)
 
 pub ruleset literal-laws = (four-back, place-there, place-fits, question-there, literals-are)

@@ -31,7 +31,7 @@ use Rattle.asking.specs.Program.{asked}
 use Rattle.asking.proofs.Given.{Counted, asked-counted, Short, asked-short}
 use Rattle.answering.specs.declared.Options.{Options}
 use Rattle.answering.specs.declared.look.Looked.{Looked}
-use Rattle.answering.specs.Refusing.{counted, questionsIn, refusalText, refusedText}
+use Rattle.answering.specs.Refusing.{counted, questionsIn, Refused}
 use Rattle.answering.specs.Looking.{LookedUp, upTo, lookFrom, looked, Tells, Searchable}
 use Rattle.answering.specs.Results.{saidIn, resultText}
 use Rattle.answering.specs.Telling.{Holds, asLooked, Told, Answered}
@@ -115,15 +115,14 @@ module _ (o : Options) (name text : List ℕ) {out out′ : List ℕ} {r : ℕ} 
   ask-unlimited h p = record { all = bytes "The limit is over 32.\n"; says = AskSays.unlimited h; written = p }
 
   pub ask-refused : o .limit ≤ 32 → {file left : List ℕ} {read : TextRead} → 16384 ≡ length file → Reads text file read left → (read .status ≡ 0 → ⊥)
-      → Put out 0 (refusedText name text read) out′ r → Asks o name text out out′ r
-  unfolding refusedText refusalText
-  ask-refused low room (wrong v) n p = record { all = _; says = AskSays.wrong low v; written = p }
+      → Refused name text read out out′ r → Asks o name text out out′ r
+  ask-refused low room (wrong v) n p = record { all = _; says = AskSays.wrong low v; written = p .wrong refl }
   ask-refused low room (fine h y (Reading.Answered.unasked a)) n p =
-      record { all = _; says = AskSays.said low h y (SaysOf.unasked a); written = rw (questions-are text h y) at p }
+      record { all = _; says = AskSays.said low h y (SaysOf.unasked a); written = rw (questions-are text h y) at (p .unasked refl) }
   ask-refused low room (fine {cs = cs} h y (Reading.Answered.over a b)) n p =
-      record { all = _; says = AskSays.said {cs = cs} low h y (SaysOf.over a (λ f. b (rw (← room) f))); written = p }
+      record { all = _; says = AskSays.said {cs = cs} low h y (SaysOf.over a (λ f. b (rw (← room) f))); written = p .over (λ z. omega (arith, z)) (λ z. omega (arith, z)) (λ z. omega (arith, z)) h cs y }
   ask-refused low room (fine {cs = cs} h y (Reading.Answered.positive a b c)) n p =
-      record { all = _; says = AskSays.said {cs = cs} low h y (SaysOf.positive a (rw (← room) at b) c); written = p }
+      record { all = _; says = AskSays.said {cs = cs} low h y (SaysOf.positive a (rw (← room) at b) c); written = p .positive refl }
   ask-refused low room (fine h y (Reading.Answered.read a b c)) n p = absurd (n refl)
 
   pub ask-answered : o .limit ≤ 32 → {file left : List ℕ} {read : TextRead} → 16384 ≡ length file → Reads text file read left → read .status ≡ 0

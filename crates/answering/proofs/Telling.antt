@@ -8,7 +8,9 @@ use borrow.Author.Tests.{eq-eqb, ne-eqb}
 use lib.ListN.{length, take, drop}
 use lib.Seq.{take-take}
 use Rattle.words.specs.Steps.{stepOf}
+use Rattle.table.specs.Encode.{clauseWords}
 use Rattle.table.specs.File.{judge, tableIn}
+use Rattle.tuples.specs.Tuples.{answersText}
 use Rattle.clausetext.specs.Syntax.{Clause}
 use Rattle.names.specs.Numbers.{Name}
 use Rattle.names.specs.Noting.{namesAt}
@@ -25,7 +27,7 @@ use Rattle.assistant.specs.Results as Lines
 use Rattle.hukolearu.specs.declared.Outcome.{Outcome}
 use Rattle.answering.specs.declared.Options.{Options}
 use Rattle.answering.specs.declared.look.Looked.{Looked}
-use Rattle.answering.specs.Results.{paged, answerText, clausesText, proofText, groundsText, foundText, endText, resultText}
+use Rattle.answering.specs.Results.{paged, answerText, clausesText, proofText, groundsText, tuplesLine, linesText, foundText, endText, resultText}
 use Rattle.answering.specs.Telling.{wordsIn, CutTo, Wordable, Holds, FoundIn, Told, asLooked}
 use Rattle.answering.proofs.Wordings.{indexed-same}
 
@@ -93,10 +95,24 @@ grounds-are wanted text index file steps {rest} {places} er ep p q =
 pub found-is : (wanted : Bool) (name text index file : List ℕ) (bound tries disjuncts : ℕ) (steps words : List ℕ)
     → {o₀ o₁ o₂ o₃ : List ℕ} {n₀ n₁ n₂ n₃ : ℕ} → Put o₀ n₀ (paged (answerText (wordsIn text index file) bound tries disjuncts words)) o₁ n₁
     → Put o₁ n₁ (groundsText wanted (namesAt text (clausePlaces index)) (tableIn file) steps) o₂ n₂
-    → Put o₂ n₂ (szsText (bytes "Unsatisfiable") name) o₃ n₃
+    → Put o₂ n₂ (linesText name (wordsIn text index file) disjuncts words) o₃ n₃
     → Put o₀ n₀ (foundText wanted name (wordsIn text index file) bound tries disjuncts steps words) o₃ n₃
 unfolding foundText
 found-is wanted name text index file bound tries disjuncts steps words p q r = then p (then q r)
+
+-- the lines for other tools
+pub answers-are : (name text index file : List ℕ) {disjuncts d : ℕ} (words : List ℕ) → d ≡ disjuncts → {own : List ℕ} → own ≡ clauseWords (tableIn file .question)
+    → {o₀ o₁ : List ℕ} {n₀ n₁ : ℕ} → Put o₀ n₀ (answersText name (namesIn text index []) d own words) o₁ n₁
+    → Put o₀ n₀ (tuplesLine name (wordsIn text index file) disjuncts words) o₁ n₁
+unfolding tuplesLine
+answers-are name text index file words e q p = rw (e, q) at p
+
+pub lines-are : (name text index file : List ℕ) (disjuncts : ℕ) (words : List ℕ) {room page : List ℕ} {n : ℕ} {o₀ o₁ o₂ : List ℕ} {n₀ n₁ n₂ : ℕ}
+    → Put o₀ n₀ (szsText (bytes "Unsatisfiable") name) o₁ n₁ → length room ≡ 262144
+    → Put room 0 (tuplesLine name (wordsIn text index file) disjuncts words) page n → CutTo page n o₁ n₁ o₂ n₂
+    → Put o₀ n₀ (linesText name (wordsIn text index file) disjuncts words) o₂ n₂
+unfolding linesText
+lines-are name text index file disjuncts words {room} p size w c = then p (c .told room (tuplesLine name (wordsIn text index file) disjuncts words) size w)
 
 -- in the names of the text
 pub found-told : (wanted : Bool) (name file : List ℕ) {text index : List ℕ} {made : Bool} → Indexed text index made → (l : Looked) (steps words : List ℕ)

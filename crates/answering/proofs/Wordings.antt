@@ -11,6 +11,9 @@ use Rattle.words.specs.Steps.{stepOf}
 use Rattle.words.specs.declared.Step.{Step}
 use Rattle.words.specs.declared.Step.the-variants.{Reduction, Extension, Restart, Malformed}
 use Rattle.table.specs.Syntax.{Table}
+use Rattle.table.specs.Encode.{clauseWords}
+use Rattle.tuples.specs.Tuples.{answersText}
+use Rattle.tuples.proofs.Wordings.{answers-same}
 use Rattle.table.specs.File.{tableIn}
 use Rattle.clausetext.specs.Syntax.{Clause}
 use Rattle.names.specs.Numbers.{Name}
@@ -25,7 +28,7 @@ use Rattle.naming.specs.Shown.{Names, orNumbered, jointText, signText, closing,
 use Rattle.assistant.specs.Results.{szsText, behindText}
 use Rattle.listing.specs.Behind.{Listed, listed}
 use Rattle.written_proofs.specs.Steps.{begins, stands, onlyFrom, tells, clauseText, textOf, stepText, stepsText}
-use Rattle.answering.specs.Results.{Wording, saidIn, paged, answerText, behindLines, clausesText, proofText, groundsText, foundText}
+use Rattle.answering.specs.Results.{Wording, saidIn, paged, answerText, behindLines, clausesText, proofText, groundsText, tuplesLine, linesText, foundText}
 use Rattle.answering.specs.Telling.{wordsIn}
 
 -- lists with the same names at the same numbers; past its end a list has empty ones
@@ -119,13 +122,21 @@ module _ (ns ms : List Name) (h : Alike ns ms) where
   proof-same true steps = rw (steps-same steps)
   proof-same false steps = refl
 
+-- the answers as tuples
+line-same : (w v : Wording) → w .table ≡ v .table → SameNames (w .names) (v .names) → (name : List ℕ) (disjuncts : ℕ) (words : List ℕ)
+    → tuplesLine name w disjuncts words ≡ tuplesLine name v disjuncts words
+unfolding tuplesLine
+line-same w v t s name disjuncts words =
+    ap (λ (x : Table). answersText name (w .names) disjuncts (clauseWords (x .question)) words) t
+    ∙ answers-same (w .names) (v .names) (λ ws. shown-same (w .names) (v .names) s 0 0 [] ws) name disjuncts (clauseWords (v .table .question)) words
+
 -- all that is written of what was found
 pub found-same : (w v : Wording) → w .table ≡ v .table → SameNames (w .names) (v .names) → Alike (w .clauses) (v .clauses)
     → (wanted : Bool) (name : List ℕ) (bound tries disjuncts : ℕ) (steps words : List ℕ)
     → foundText wanted name w bound tries disjuncts steps words ≡ foundText wanted name v bound tries disjuncts steps words
-unfolding foundText groundsText answerText clausesText
+unfolding foundText groundsText answerText clausesText linesText
 found-same w v t s c wanted name bound tries disjuncts steps words =
-    rw (t, shown-same (w .names) (v .names) s (length (v .table .question .literals)) 0 [] words, lines-same (w .clauses) (v .clauses) c (listed (v .table) (map stepOf steps)), proof-same (w .clauses) (v .clauses) c wanted steps)
+    rw (line-same w v t s name disjuncts words, t, shown-same (w .names) (v .names) s (length (v .table .question .literals)) 0 [] words, lines-same (w .clauses) (v .clauses) c (listed (v .table) (map stepOf steps)), proof-same (w .clauses) (v .clauses) c wanted steps)
 
 -- an index of an admissible text gives the names that its clauses say
 pub indexed-same : {text index : List ℕ} (file : List ℕ) {r : Bool} → Indexed text index r → (cs : List Clause) → Admissible text cs → tableIn file ≡ tableSaid cs

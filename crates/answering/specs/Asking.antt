@@ -1,5 +1,5 @@
 -- All that `ask` writes of a text whose file has a name.
-use mathlib.Core.List.{List, _++_}
+use mathlib.Core.List.{List, []}
 use mathlib.Core.Path.{_≡_}
 use Prim.Native.Nat.{ℕ, _≤_, _<_}
 use lib.ListN.{length}
@@ -11,21 +11,19 @@ use Rattle.tptp.specs.Said.{tableSaid}
 use Rattle.tptp.specs.Reads.{Fits, Denied}
 use Rattle.text.specs.Put.{Put}
 use Rattle.text.specs.Quoted.{bytes}
-use Rattle.assistant.specs.Refusals.{wrongText, unaskedText, positiveText, overText}
-use Rattle.assistant.specs.Results.{szsText}
+use Rattle.limits.specs.Over.{firstOver}
+use Rattle.limits.specs.Told.{overText}
+use Rattle.assistant.specs.Refusals.{wrongText, unaskedText, positiveText}
 use Rattle.answering.specs.declared.Options.{Options}
+use Rattle.answering.specs.Refusing.{inputError}
 use Rattle.answering.specs.Looking.{looked}
 use Rattle.answering.specs.Results.{saidIn, resultText}
 
--- a refusal, with the line for other tools
-abbrev pub inputError : List ℕ → List ℕ → List ℕ
-inputError name why = why ++ szsText (bytes "InputError") name
-
--- Of the clauses that a text says: not exactly one question; over a limit, or over the 16,384 words of room; a positive literal in the question; else the
+-- Of the clauses that a text says: not exactly one question; over a limit, with the first clause that passes one; a positive literal in the question; else the
 -- result of the question put to the text's table, bound by bound.
 pub data SaysOf (o : Options) (name text : List ℕ) (cs : List Clause) : List ℕ → Type 0 where
   unasked : (questions cs ≡ 1 → ⊥) → SaysOf o name text cs (inputError name (unaskedText name text (questions cs)))
-  over : questions cs ≡ 1 → (Fits (tableSaid cs) 16384 → ⊥) → SaysOf o name text cs (inputError name (overText name))
+  over : questions cs ≡ 1 → (Fits (tableSaid cs) 16384 → ⊥) → SaysOf o name text cs (inputError name (overText name (firstOver [] cs)))
   positive : questions cs ≡ 1 → Fits (tableSaid cs) 16384 → (Denied (tableSaid cs) → ⊥) → SaysOf o name text cs (inputError name (positiveText name text))
   answered : questions cs ≡ 1 → Fits (tableSaid cs) 16384 → Denied (tableSaid cs)
       → SaysOf o name text cs (resultText o name (saidIn cs) (looked (fileWords (tableSaid cs)) (o .limit) (o .budget)))

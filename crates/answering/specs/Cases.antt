@@ -40,7 +40,7 @@ abbrev pub FoundOpen : Type 0
 FoundOpen =
     written 2 100 false
     ≡ bytes
-    "Found: an answer with 2 alternatives, not definite (bound 2, tries 7)\nat(e,mat)\nor at(e,eve)\nClauses behind it, and how often each was used:\n  bill 1\n  when 2\n% SZS status Unsatisfiable for c1.p\n"
+    "Found: an answer with 2 alternatives, not definite (bound 2, tries 7)\nat(e,mat)\nor at(e,eve)\nClauses behind it, and how often each was used:\n  bill 1\n  when 2\n% SZS status Unsatisfiable for c1.p\n% SZS answers Tuple [([mat]|[eve])|_] for c1.p\n"
 
 -- none up to a limit, and a budget that does not last
 abbrev pub NoneFound : Type 0

@@ -7,12 +7,14 @@ use lib.ListN.{length, take, getD}
 use Rattle.words.specs.Steps.{stepOf}
 use Rattle.words.specs.declared.Step.{Step}
 use Rattle.table.specs.Syntax.{Table}
+use Rattle.table.specs.Encode.{clauseWords}
 use Rattle.clausetext.specs.Syntax.{Clause}
 use Rattle.names.specs.Numbers.{Name}
 use Rattle.tptp.specs.Said.{predicates, functions, tableSaid}
 use Rattle.text.specs.Quoted.{bytes}
 use Rattle.naming.specs.Clauses.{fileNames}
 use Rattle.naming.specs.Shown.{Names, shown}
+use Rattle.tuples.specs.Tuples.{answersText}
 use Rattle.listing.specs.Behind.{Listed, listed}
 use Rattle.written_proofs.specs.Steps.{stepsText}
 use Rattle.hukolearu.specs.Status as Status
@@ -61,10 +63,17 @@ proofText false ns steps = []
 unfoldable pub groundsText : Bool → List Name → Table → List ℕ → List ℕ
 groundsText wanted ns t steps = clausesText ns t (map stepOf steps) ++ proofText wanted ns steps
 
+-- the lines for other tools: the status, and the answers as tuples
+unfoldable pub tuplesLine : List ℕ → Wording → ℕ → List ℕ → List ℕ
+tuplesLine name w disjuncts words = answersText name (w .names) disjuncts (clauseWords (w .table .question)) words
+
+unfoldable pub linesText : List ℕ → Wording → ℕ → List ℕ → List ℕ
+linesText name w disjuncts words = szsText (bytes "Unsatisfiable") name ++ paged (tuplesLine name w disjuncts words)
+
 unfoldable pub foundText : Bool → List ℕ → Wording → ℕ → ℕ → ℕ → List ℕ → List ℕ → List ℕ
 foundText wanted name w bound tries disjuncts steps words =
     paged (answerText w bound tries disjuncts words)
-    ++ (groundsText wanted (w .clauses) (w .table) steps ++ szsText (bytes "Unsatisfiable") name)
+    ++ (groundsText wanted (w .clauses) (w .table) steps ++ linesText name w disjuncts words)
 
 -- no answer to show: none up to the limit, ran out, or an answer that is too long
 unfoldable pub endText : ℕ → List ℕ → ℕ → ℕ → ℕ → List ℕ

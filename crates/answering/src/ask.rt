@@ -2,9 +2,8 @@
 ghost use mathlib.Core.Path.{_≡_};
 ghost use Prim.Native.Nat.{_≤_};
 ghost use Rattle.table.specs.File.{judge};
-ghost use Rattle.text.specs.Put.{Put};
 ghost use Rattle.answering.specs.Asking.{Asks};
-ghost use Rattle.answering.specs.Refusing.{refusedText};
+ghost use Rattle.answering.specs.Refusing.{Refused};
 ghost use Rattle.answering.specs.Telling.{Answered};
 use crate::Options;
 use crate::look;
@@ -18,7 +17,7 @@ use tptp::TextRead;
 use words::fields::wide;
 
 fn refused(name: &[u8], text: &[u8], read: TextRead, out: &mut [u8]) -> usize
-    ensures { λ r. ⌜ Put (now (out .entry)) 0 (refusedText (now (name .entry)) (now (text .entry)) read) (now (out .exit)) r ⌝ }
+    ensures { λ r. ⌜ Refused (now (name .entry)) (now (text .entry)) read (now (out .entry)) (now (out .exit)) r ⌝ }
 {
     let a = refuse::refusal(out, 0, name, text, read);
     result::szs(out, a, b"InputError", name)

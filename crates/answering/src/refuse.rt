@@ -1,7 +1,6 @@
 // Why a text is refused, in plain words.
 ghost use mathlib.Core.Path.{_≡_};
-ghost use Rattle.text.specs.Put.{Put};
-ghost use Rattle.answering.specs.Refusing.{questionsIn, refusalText};
+ghost use Rattle.answering.specs.Refusing.{questionsIn, Refusal};
 use assistant::refusal;
 use clausetext::judge::Verdict;
 use clausetext::judge::judge_text;
@@ -20,7 +19,7 @@ fn questions(text: &[u8]) -> usize
 }
 
 pub fn refusal(out: &mut [u8], at: usize, name: &[u8], text: &[u8], read: TextRead) -> usize
-    ensures { λ r. ⌜ Put (now (out .entry)) at (refusalText (now (name .entry)) (now (text .entry)) read) (now (out .exit)) r ⌝ }
+    ensures { λ r. ⌜ Refusal (now (name .entry)) (now (text .entry)) read (now (out .entry)) at (now (out .exit)) r ⌝ }
 {
     if read.status == 17 {
         return refusal::wrong(out, at, name, text, wide(read.place));
@@ -31,5 +30,5 @@ pub fn refusal(out: &mut [u8], at: usize, name: &[u8], text: &[u8], read: TextRe
     if read.status == 9 {
         return refusal::positive(out, at, name, text);
     }
-    refusal::over(out, at, name)
+    limits::tell::over(out, at, name, text)
 }

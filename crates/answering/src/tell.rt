@@ -7,7 +7,7 @@ ghost use Rattle.names.specs.Noting.{namesAt};
 ghost use Rattle.table.specs.File.{tableIn};
 ghost use Rattle.naming.specs.Index.{clausePlaces};
 ghost use Rattle.text.specs.Put.{Put};
-ghost use Rattle.answering.specs.Results.{paged, answerText, proofText, groundsText, foundText, endText};
+ghost use Rattle.answering.specs.Results.{paged, answerText, proofText, groundsText, tuplesLine, linesText, foundText, endText};
 ghost use Rattle.answering.specs.Telling.{wordsIn, CutTo, Wordable, Holds, FoundIn, Told};
 use crate::Options;
 use crate::behind;
@@ -19,6 +19,7 @@ use hukolearu::status;
 use naming::show;
 use text::part;
 use text::put;
+use words::fields::wide;
 
 // A page that was written, cut at its end with a mark.
 pub fn cut(page: &[u8], n: usize, out: &mut [u8], at: usize) -> usize
@@ -106,6 +107,43 @@ fn grounds(
     proof(wanted, text, places, steps, out, next)
 }
 
+// The answers as tuples.
+fn answers(
+    name: &[u8],
+    text: &[u8],
+    index: &[u32],
+    file: &[u32],
+    disjuncts: u32,
+    words: &[u32],
+    page: &mut [u8],
+) -> usize
+    requires { ⌜ Wordable (now index) (now file) × (length (now words) ≤ 4096) ⌝ }
+    ensures { λ r. ⌜ Put (now (page .entry)) 0 (tuplesLine (now (name .entry)) (wordsIn (now (text .entry)) (now (index .entry)) (now (file .entry))) disjuncts (now (words .entry))) (now (page .exit)) r ⌝ }
+{
+    let own = question::words(file);
+    tuples::answers(name, text, index, wide(disjuncts), own, words, page, 0)
+}
+
+// The lines for other tools: the status, and the answers on a page of their own.
+fn lines(
+    name: &[u8],
+    text: &[u8],
+    index: &[u32],
+    file: &[u32],
+    disjuncts: u32,
+    words: &[u32],
+    out: &mut [u8],
+    at: usize,
+) -> usize
+    requires { ⌜ Wordable (now index) (now file) × (length (now words) ≤ 4096) ⌝ }
+    ensures { λ r. ⌜ Put (now (out .entry)) at (linesText (now (name .entry)) (wordsIn (now (text .entry)) (now (index .entry)) (now (file .entry))) disjuncts (now (words .entry))) (now (out .exit)) r ⌝ }
+{
+    let next = result::szs(out, at, b"Unsatisfiable", name);
+    let mut page = rooms::page();
+    let n = answers(name, text, index, file, disjuncts, words, &mut page);
+    cut(&page, n, out, next)
+}
+
 // A proof found, its answer in names.
 fn found(
     wanted: bool,
@@ -124,7 +162,7 @@ fn found(
 {
     let a = answer_page(text, index, file, l, words, out, at);
     let b = grounds(wanted, text, index, file, steps, out, a);
-    result::szs(out, b, b"Unsatisfiable", name)
+    lines(name, text, index, file, l.outcome.disjuncts, words, out, b)
 }
 
 // The names of the text, and what was found in them.

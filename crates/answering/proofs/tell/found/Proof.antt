@@ -11,11 +11,8 @@ answer-page-requires c κs = search needs
 grounds-requires : tie.Need-grounds-requires
 grounds-requires c κs = search needs
 
-slice-aggregate-szs : tie.Need-slice-aggregate-szs
-slice-aggregate-szs c = search needs
-
-szs-requires : tie.Need-szs-requires
-szs-requires c κs = search needs
+lines-requires : tie.Need-lines-requires
+lines-requires c κs = search needs
 
 same-length : tie.Need-same-length
 same-length c = search needs
@@ -29,7 +26,6 @@ found-spec =
     (tie.spec
     answer-page-requires
     grounds-requires
-    slice-aggregate-szs
-    szs-requires
+    lines-requires
     same-length
     returns)
