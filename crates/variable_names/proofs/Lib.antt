@@ -1,0 +1,4 @@
+pub mod Walks
+pub mod Clauses
+pub mod Named
+pub mod Witnesses

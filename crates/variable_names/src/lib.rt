@@ -1,0 +1,3 @@
+// The names of a clause's variables, as parts of the caller's text.
+pub mod find;
+pub mod own;
