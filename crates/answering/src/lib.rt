@@ -1,4 +1,6 @@
 // `ask` of the program for people, from the bytes of a text to the bytes that are written.
+#![tactic(auto)]
+
 pub mod ask;
 pub mod behind;
 mod look;

@@ -1,4 +1,6 @@
 // The program for people, installed as `hukolearu`. It reads arguments and files and writes; what it writes is made by proved functions of the libraries.
+#![tactic(auto)]
+
 mod arguments;
 mod asking;
 mod check;

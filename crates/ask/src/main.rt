@@ -1,4 +1,6 @@
 // Document 01's program: reads a question from standard input and writes its answer. What it writes is asking::program::ask.
+#![tactic(auto)]
+
 use libc::{STDIN_FILENO, STDOUT_FILENO};
 use text::part;
 

@@ -1,4 +1,6 @@
 // Gives each file that an argument names to document 01's program: the file's name, and what the program writes.
+#![tactic(auto)]
+
 use libc::STDOUT_FILENO;
 use text::part;
 

@@ -1,5 +1,7 @@
 // Answers requests from standard input, one a line: every public call, its buffers filled before it and looked over after it.
 // A verb is a row in one of the functions that `answer_request` asks, a function that makes the call, and its result line in `results`.
+#![tactic(auto)]
+
 ghost use Rattle.std.specs.Prelude.{◌≤◌, ◌<◌, length};
 
 use libc::{STDIN_FILENO, STDOUT_FILENO};

@@ -1,4 +1,6 @@
 // Order 2: the text of a table.
+#![tactic(auto)]
+
 pub mod call;
 pub mod line;
 

@@ -1,4 +1,6 @@
 // The matinee desk (document 02, order 14): what the records of a day and house say.
+#![tactic(auto)]
+
 ghost use Rattle.std.specs.Prelude.{◌≡◌, true, false};
 ghost use Rattle.desk.specs.Records.{matinee, records_of, acceptable};
 ghost use Rattle.desk.specs.Desk.{recorded, desk_says, slots, no_slot, values_of};

@@ -1,5 +1,7 @@
 // The education desk (document 02, order 8): the search and the checker over the table without restricted clauses. They are put to a copy of the file that
 // has the other clauses alone, so that no restricted word comes near the engine.
+#![tactic(auto)]
+
 ghost use Rattle.std.specs.Prelude.{◌≡◌, length};
 ghost use Rattle.rules.specs.Setting.{profile_of};
 ghost use Rattle.hukolearu.specs.Door.{work_after};

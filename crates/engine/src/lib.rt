@@ -1,4 +1,6 @@
 // Search and checker on lent words.
+#![tactic(auto)]
+
 pub mod check;
 mod profile;
 pub mod search;

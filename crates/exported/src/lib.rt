@@ -1,4 +1,6 @@
 // Every public call for C, in one archive: the same names with a prefix, the same arguments in the same order, the same contracts.
+#![tactic(auto)]
+
 ghost use Rattle.std.specs.Prelude.{◌≡◌, length};
 ghost use Rattle.hukolearu.specs.Door.{work_after};
 ghost use Rattle.hukolearu.specs.Calls.{search_call, search_with, check_call, check_with, at_front};

@@ -1,4 +1,6 @@
 // Judges each file that an argument names: its name, status and place, the lengths of four clauses looked up, and a fingerprint of the second.
+#![tactic(auto)]
+
 use libc::STDOUT_FILENO;
 
 fn print_number(label: &[u8], n: usize) {

@@ -1,4 +1,6 @@
 // The 32-bit FNV-1a of each line of standard input, in hexadecimal, a line each.
+#![tactic(auto)]
+
 ghost use Rattle.std.specs.Prelude.{◌≤◌, length};
 
 use libc::{STDIN_FILENO, STDOUT_FILENO};

@@ -1,4 +1,6 @@
 // The public calls: a search, and the check of an offered proof.
+#![tactic(auto)]
+
 pub mod calls;
 pub mod door;
 pub mod status;

@@ -1,4 +1,6 @@
 // What a line's call is lent: buffers filled before it, as long as the line asks; and the line that is written of it.
+#![tactic(auto)]
+
 ghost use Rattle.std.specs.Prelude.{◌≡◌, min, length, replicate};
 
 use libc::STDOUT_FILENO;

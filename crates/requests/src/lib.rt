@@ -1,4 +1,6 @@
 // The line protocol of `calls`, read: a line's pieces, and the fields of a request.
+#![tactic(auto)]
+
 pub mod bytes;
 pub mod piece;
 pub mod records;

@@ -1,4 +1,6 @@
 // The line protocol of `calls`, written: a result line for each call, and what is looked for in the lent buffers.
+#![tactic(auto)]
+
 pub mod buffers;
 pub mod clause;
 pub mod counts;

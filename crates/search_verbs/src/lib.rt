@@ -1,4 +1,6 @@
 // The verbs of the line protocol that are asked as a search or a check is: the row, the call with its buffers, the result line.
+#![tactic(auto)]
+
 pub mod check;
 mod report;
 pub mod search;

@@ -1,4 +1,6 @@
 // The season report (document 02, order 13): many questions put to one table, each in the place of the table's own.
+#![tactic(auto)]
+
 ghost use Rattle.std.specs.Prelude.{true, ◌≡◌, length};
 ghost use Rattle.table.specs.File.{judge};
 ghost use Rattle.season.specs.Season.{refused_report, entries_fit, season_with, report_of, proof_after, answer_after, work_left};

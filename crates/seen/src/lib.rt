@@ -1,4 +1,6 @@
 // What education sees of a file (document 02, order 8): a copy with the clauses that are not restricted, in their order, and the question.
+#![tactic(auto)]
+
 ghost use Rattle.std.specs.Prelude.{◌≡◌, length};
 ghost use Rattle.table.specs.Build.{at_front};
 ghost use Rattle.table.specs.File.{table_in};

@@ -1,4 +1,6 @@
 // Order 12: a slimmer file without repeats and dead clauses.
+#![tactic(auto)]
+
 pub mod calls;
 pub mod dropping;
 pub mod writing;

@@ -1,4 +1,6 @@
 // The smallest bound (document 02, order 6): bounds 0, 1, 2 up to a limit are tried with one budget for all.
+#![tactic(auto)]
+
 ghost use Rattle.std.specs.Prelude.{◌≡◌, ◌+◌, ◌≤◌, length};
 ghost use Rattle.table.specs.File.{table_in};
 ghost use Rattle.hukolearu.specs.Door.{work_after};

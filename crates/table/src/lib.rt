@@ -1,4 +1,6 @@
 // Table: reading a question file (document 01, statuses 4 to 9, and document 02's 21), and looking up a clause.
+#![tactic(auto)]
+
 pub mod build;
 pub mod file;
 pub mod read;

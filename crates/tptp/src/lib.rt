@@ -1,4 +1,6 @@
 // TPTP clause text in (document 02, order 1).
+#![tactic(auto)]
+
 pub mod body;
 pub mod call;
 pub mod last;

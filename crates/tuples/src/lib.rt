@@ -1,4 +1,6 @@
 // The answers as tuples: a line for other tools, in the words of the SZS ontology.
+#![tactic(auto)]
+
 ghost use Rattle.std.specs.Prelude.{◌≡◌, [], ◌++◌, ◌+◌, ◌≤◌, min, length};
 ghost use Rattle.text.specs.Put.{Put};
 ghost use Rattle.naming.specs.Shown.{names_in, shown};

@@ -39,7 +39,7 @@ mixed_one h b e = e ∙ sym (mixed_more h b [] ∙ mixed_none _)
 
 pub mixed_append : (h : ℕ) (xs ys : List ℕ) → mixed h (xs ++ ys) ≡ mixed (mixed h xs) ys
 mixed_append h [] ys = rw mixed_none
-mixed_append h (x ∷ xs) ys = mixed_more h x (xs ++ ys) ∙ mixed_append _ xs ys ∙ ap (λ (n : ℕ). mixed n ys) (sym (mixed_more h x xs))
+mixed_append h (x ∷ xs) ys = mixed_more h x (xs ++ ys) ∙ mixed_append (product (bit_xor h x)) xs ys ∙ ap (λ (n : ℕ). mixed n ys) (sym (mixed_more h x xs))
 
 mixed_word : (h w : ℕ)
     → mixed (mixed (mixed (mixed h (bits 0 8 w ∷ [])) (bits 8 8 w ∷ [])) (bits 16 8 w ∷ [])) (bits 24 8 w ∷ []) ≡ mixed h (word_bytes w)

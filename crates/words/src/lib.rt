@@ -1,4 +1,6 @@
 // Words: the fields of a 32-bit word, steps, the fingerprint, and words made of bytes.
+#![tactic(auto)]
+
 pub mod bytes;
 pub mod fields;
 pub mod fingerprint;

@@ -6,10 +6,10 @@ use Rattle.words.proofs.fingerprint.of_bytes.Tie as tie
 
 ruleset all = (rules, begin_bytes, turn_bytes, finish_bytes)
 
-abbrev invariant-loop : tie.invariant-loop
+abbrev invariant-loop : tie.invariant-loop-i
 invariant-loop text h₀ i₀ h i = (i ≤ length text) × (fnv text ≡ mixed h (drop i text))
 
-abbrev decreases-loop : tie.decreases-loop
+abbrev decreases-loop : tie.decreases-loop-i
 decreases-loop text h₀ i₀ h i = length text - i
 
 pub of_bytes_spec : {M : Type 1} → statement M

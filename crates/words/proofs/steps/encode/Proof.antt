@@ -7,4 +7,4 @@ ruleset all = (rules, restart_kept, malformed_kept)
 
 pub encode_spec : {M : Type 1} → statement M
 encode_spec = tie.close (tie.spec (λ c. search all) (λ c κs. search all) (λ c. search all) (λ c κs. search all) (λ c. search all) (λ c. search all)
-    (λ c. cc c.before.before.s.given.1) (λ c. cc c.before.before.s2.given.1) (λ c. restart_kept c.enum_told.given.1) (λ c. malformed_kept c.enum-told2.given.1))
+    (λ c. cc c.in-Reduction.is) (λ c. cc c.in-Extension.is) (λ c. restart_kept c.in-Restart.is) (λ c. malformed_kept c.in-Malformed.is))
