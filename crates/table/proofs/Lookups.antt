@@ -50,8 +50,8 @@ module _ (file : List ℕ) (z : (judge file).status ≡ 0) where
       stop_small = record { fits = omega (arith, stop_in, (accepted file z).most) }
 
 module _ (file : Bor (List ℕ)) {number s : ℕ} (b : BeginsAt (body_of file.now) number s) {f g : ℕ} (ef : f ≡ following_of (get_or file.now s 0)) (eg : g ≡ f) where
-  pub part_stands : (name : ℕ) → Stands file (part_from file.now (get_or (clause_starts file.now) number 0)) (record { ref_ptr = (file.ref_ptr.0, s * 4 + file.ref_ptr.1); ghost_name = name; now = take (s + (g + 1) - s) (drop s file.now) })
-  part_stands name = record {
+  pub part_stands : Stands file (part_from file.now (get_or (clause_starts file.now) number 0)) (record { ref_ptr = (file.ref_ptr.0, s * 4 + file.ref_ptr.1); now = take (s + (g + 1) - s) (drop s file.now) })
+  part_stands = record {
     words =
         let n : s + (g + 1) - s ≡ following_of (get_or file.now s 0) + 1 = omega arith in rw (← b.place, n);
     place = rw (← b.place);
@@ -72,18 +72,18 @@ module _ (file : List ℕ) (number : ℕ) where
   part_found z h = rw (eq-eqb (judge file).status 0 z, lt-ltb number (judge file).clauses h)
 
 -- the part of length 0
-abbrev nothing : Bor (List ℕ) → ℕ → Bor (List ℕ)
-nothing file name = record { ref_ptr = (file.ref_ptr.0, 0 * 4 + file.ref_ptr.1); ghost_name = name; now = take (0 - 0) (drop 0 file.now) }
+abbrev nothing : Bor (List ℕ) → Bor (List ℕ)
+nothing file = record { ref_ptr = (file.ref_ptr.0, 0 * 4 + file.ref_ptr.1); now = take (0 - 0) (drop 0 file.now) }
 
-nothing_stands : (file : Bor (List ℕ)) (part : Part) → part ≡ record { start = 0; count = 0 } → (name : ℕ) → Stands file part (nothing file name)
-nothing_stands file part p name = record { words = rw p; place = rw p }
+nothing_stands : (file : Bor (List ℕ)) (part : Part) → part ≡ record { start = 0; count = 0 } → Stands file part (nothing file)
+nothing_stands file part p = record { words = rw p; place = rw p }
 
 module _ (file : Bor (List ℕ)) (number : ℕ) {j : Judgement} (e : j ≡ judge file.now) where
-  pub file_refused : (j.status ≡ 0 → ⊥) → (name : ℕ) → Stands file (clause_part file.now number) (nothing file name)
+  pub file_refused : (j.status ≡ 0 → ⊥) → Stands file (clause_part file.now number) (nothing file)
   file_refused n = nothing_stands file _ (none-refused file.now number (rw e at n))
 
   module _ (z : j.status ≡ 0) where
-    pub number_refused : j.clauses ≤ number → (name : ℕ) → Stands file (clause_part file.now number) (nothing file name)
+    pub number_refused : j.clauses ≤ number → Stands file (clause_part file.now number) (nothing file)
     number_refused h = nothing_stands file _ (none_above file.now number (rw e at z) (rw e at h))
 
     pub judged_accepted : (judge file.now).status ≡ 0

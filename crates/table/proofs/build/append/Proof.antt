@@ -8,10 +8,10 @@ use Rattle.table.proofs.build.append.Tie as tie
 
 ruleset all = (rules, append_laws)
 
-abbrev invariant-loop : tie.invariant-loop
+abbrev invariant-loop : tie.invariant-loop-i
 invariant-loop file₀ at words i₀ file i = Copying file₀ at words i file
 
-abbrev decreases-loop : tie.decreases-loop
+abbrev decreases-loop : tie.decreases-loop-i
 decreases-loop file₀ at words i₀ file i = length words - i
 
 pub append_spec : {M : Type 1} → statement M

@@ -7,10 +7,10 @@ use Rattle.table.proofs.file.any_positive.Tie as tie
 
 ruleset all = (rules, positive_laws)
 
-abbrev invariant-loop : tie.invariant-loop
+abbrev invariant-loop : tie.invariant-loop-i
 invariant-loop words i₀ i = Passing words i
 
-abbrev decreases-loop : tie.decreases-loop
+abbrev decreases-loop : tie.decreases-loop-i
 decreases-loop words i₀ i = length words - i
 
 pub any_positive_spec : {M : Type 1} → statement M

@@ -7,10 +7,10 @@ use Rattle.table.proofs.file.read_body.Tie as tie
 
 ruleset all = (rules, body_laws)
 
-abbrev invariant-loop : tie.invariant-loop
+abbrev invariant-loop : tie.invariant-loop-at
 invariant-loop body at₀ clauses₀ last₀ h₀ at clauses last h = Walking body at clauses last h
 
-abbrev decreases-loop : tie.decreases-loop
+abbrev decreases-loop : tie.decreases-loop-at
 decreases-loop body at₀ clauses₀ last₀ h₀ at clauses last h = length body - at
 
 pub read_body_spec : {M : Type 1} → statement M

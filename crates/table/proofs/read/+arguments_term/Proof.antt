@@ -41,10 +41,10 @@ term_at t = and 1 term-kinds.ps (is 1 term-kinds.ps μ_term t) term.Pre
 abbrev term_below : ℕ → In 1 term-kinds.ps
 term_below t = and 1 term-kinds.ps (falls 1 term-kinds.ps ◌<◌ μ_term t) term.Pre
 
-abbrev Inv : arguments-lts.invariant-loop
+abbrev Inv : arguments-lts.invariant-loop-left
 Inv own at count many hash next₀ left₀ h₀ next left h = Going count own at many hash next left h
 
-abbrev μ : arguments-lts.decreases-loop
+abbrev μ : arguments-lts.decreases-loop-left
 μ own at count many hash next₀ left₀ h₀ next left h = length own - next
 
 abbrev told_arguments : ℕ → arguments-lts.Claims
@@ -53,8 +53,8 @@ told_arguments t = (variable-fits-reads.Asked, variable-fits-reads.Learnt, mix-w
 abbrev told : ℕ → term-lts.Claims
 told t = (variable-fits-reads.Asked, variable-fits-reads.Learnt, mix-word-reads.Asked, mix-word-reads.Learnt, function-shaped-reads.Asked, function-shaped-reads.Learnt, arity-reads.Asked, arity-reads.Learnt, arguments_below t, arguments.Post)
 
-pub +arguments-term-spec : {M : Type 1} → statement M
-+arguments-term-spec =
+pub +arguments_term_spec : {M : Type 1} → statement M
++arguments_term_spec =
     close
     μ_arguments
     μ_term

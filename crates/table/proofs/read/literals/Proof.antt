@@ -5,10 +5,10 @@ use Rattle.table.proofs.read.literals.Tie as tie
 
 ruleset all = (rules, literals_laws)
 
-abbrev invariant-loop : tie.invariant-loop
+abbrev invariant-loop : tie.invariant-loop-left
 invariant-loop own count many hash next₀ left₀ h₀ next left h = GoingLiterals count own many hash next left h
 
-abbrev decreases-loop : tie.decreases-loop
+abbrev decreases-loop : tie.decreases-loop-left
 decreases-loop own count many hash next₀ left₀ h₀ next left h = left
 
 pub literals_spec : {M : Type 1} → statement M
