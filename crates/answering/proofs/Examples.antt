@@ -29,10 +29,10 @@ pub found_open : FoundOpen
 unfolding printed
 found_open = refl
 
-pub none_found_lem : NoneFound
+pub none_found : NoneFound
 unfolding printed
-none_found_lem = refl
+none_found = refl
 
-pub ran_out_lem : RanOut
+pub ran_out : RanOut
 unfolding printed
-ran_out_lem = refl
+ran_out = refl

@@ -13,7 +13,7 @@ use lib.ListN.{length}
 use Rattle.table.specs.File.{judge, table_in}
 use Rattle.rules.specs.Setting.{Setting, base}
 use Rattle.hukolearu.specs.Calls.{Given, search_call, search_with, at_front}
-use Rattle.hukolearu.specs.Says.{SearchAccepted, SearchSays, ran_out_lem, none_found_lem, found_fitting, found_too_long}
+use Rattle.hukolearu.specs.Says.{SearchAccepted, SearchSays, ran_out, none_found, found_fitting, found_too_long}
 use Rattle.hukolearu.specs.declared.Outcome.{Outcome}
 use Rattle.hukolearu.proofs.CallDemands.{search_says}
 use Rattle.asking.specs.Program.{question, asked}
@@ -22,8 +22,8 @@ use Rattle.answering.specs.Looking.{LookedUp, up_to, look_from, looked, Tells, S
 
 -- an accepted search makes no more tries than its budget, and one that says "none" gives no words
 says_tries : {S : Setting} {budget room : ℕ} {g : Given} → SearchSays S budget room g → g.outcome.tries ≤ budget
-says_tries (ran_out_lem d l) = omega arith
-says_tries (none_found_lem d l) = l
+says_tries (ran_out d l) = omega arith
+says_tries (none_found d l) = l
 says_tries (found_fitting d l c a r) = l
 says_tries (found_too_long d l c a r) = l
 
@@ -33,8 +33,8 @@ pub record Empty (g : Given) : Type 0 where
   pub answer : g.answer ≡ []
 
 says_none : {S : Setting} {budget room : ℕ} {g : Given} → SearchSays S budget room g → g.outcome.status ≡ 10 → Empty g
-says_none (ran_out_lem d l) e = absurd (omega arith)
-says_none (none_found_lem d l) e = record { disjuncts = refl; proof = refl; answer = refl }
+says_none (ran_out d l) e = absurd (omega arith)
+says_none (none_found d l) e = record { disjuncts = refl; proof = refl; answer = refl }
 says_none (found_fitting d l c a r) e = absurd (omega arith)
 says_none (found_too_long d l c a r) e = absurd (omega arith)
 

@@ -20,7 +20,7 @@ use Rattle.hukolearu.specs.CallDemands.{FoundStatus}
 use Rattle.asking.specs.Program.{question, asked}
 use Rattle.smallest.specs.Smallest.{LeastGiven, none_up_to, ends_at, ended, from_bound, search_at, smallest_call}
 use Rattle.smallest.proofs.AtTheDoor.{call_accepted}
-use Rattle.smallest.proofs.Bounds.{goes_on_lem, ends, none_left}
+use Rattle.smallest.proofs.Bounds.{goes_on, ends, none_left}
 use Rattle.answering.specs.declared.Options.{Options}
 use Rattle.answering.specs.Looking.{LookedUp, up_to, look_from, looked}
 use Rattle.answering.specs.Asking.{SaysOf, unasked, over, positive, answered, AskSays, unlimited, wrong, said}
@@ -99,7 +99,7 @@ module _ (search : ℕ → ℕ → Given) (budget limit : ℕ) (empty : (k b : �
       go : (b : Bool) → eqb (search bound (budget - used)).outcome.status 10 ≡ b → Both (from_bound search budget bound 1 used) (look_from search budget bound 0 used)
       go true t =
           let z = eqb-true (search bound (budget - used)).outcome.status 10 t in
-          rw (goes_on_lem search budget bound 0 used z, none_left search budget (suc bound) (used + (search bound (budget - used)).outcome.tries), look_last search budget bound used {more = 0} refl)
+          rw (goes_on search budget bound 0 used z, none_left search budget (suc bound) (used + (search bound (budget - used)).outcome.tries), look_last search budget bound used {more = 0} refl)
           (both_none bound used (search bound (budget - used)) z (empty bound (budget - used) (omega (arith, e)) z))
       go false t =
           rw (ends search budget bound 0 used (eqb-false (search bound (budget - used)).outcome.status 10 t), look_last search budget bound used {more = 0} refl)
@@ -111,7 +111,7 @@ module _ (search : ℕ → ℕ → Given) (budget limit : ℕ) (empty : (k b : �
           → Both (from_bound search budget bound (suc (suc more)) used) (look_from search budget bound (suc more) used)
       go true t ih =
           let z = eqb-true (search bound (budget - used)).outcome.status 10 t in
-          rw (goes_on_lem search budget bound (suc more) used z, look_on search budget bound used {more = suc more} {rest = more} refl z) ih
+          rw (goes_on search budget bound (suc more) used z, look_on search budget bound used {more = suc more} {rest = more} refl z) ih
       go false t ih =
           let n = eqb-false (search bound (budget - used)).outcome.status 10 t in
           rw (ends search budget bound (suc more) used n, look_ended search budget bound used (suc more) n) (both_end bound used (search bound (budget - used)))

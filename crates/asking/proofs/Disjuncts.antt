@@ -24,7 +24,7 @@ use Rattle.rules.specs.Verdict.{Answers}
 use Rattle.rules.proofs.Reading.{answer_within, answer_read, answer_reads}
 use Rattle.rules.proofs.Truth.{flat_numbered}
 use Rattle.hukolearu.specs.Calls.{Given}
-use Rattle.hukolearu.specs.Says.{SearchSays, ran_out_lem, none_found_lem, found_fitting, found_too_long}
+use Rattle.hukolearu.specs.Says.{SearchSays, ran_out, none_found, found_fitting, found_too_long}
 use Rattle.text.specs.Quoted.{bytes}
 use Rattle.asking.specs.Report.{is_literal, counting, literals_in, passing, disjunct_length, cut_into, lines_of, disjuncts_text, line_text, summary_text, answer_text, report_text}
 use Rattle.asking.specs.Program.{asked, given_text}
@@ -163,8 +163,8 @@ cut_read {question} ds r within = rw (r.whole, ← r.counted) (cut_reads (omega 
 
 says_told : (S : Setting) → Within S.table → S.bound ≤ 32 → {budget : ℕ} {g : Given} → SearchSays S budget 4096 g → g.outcome.status ≡ 0
     → Told S.table.question g
-says_told S w b (ran_out_lem d l) e = absurd (omega arith)
-says_told S w b (none_found_lem d l) e = absurd (omega arith)
+says_told S w b (ran_out d l) e = absurd (omega arith)
+says_told S w b (none_found d l) e = absurd (omega arith)
 says_told S w b (found_too_long d l c a r) e = absurd (omega arith)
 says_told S w b (found_fitting {count = count} {words = words} d l c a r) e =
     let question : Clause = S.table.question in

@@ -28,7 +28,7 @@ use Rattle.rules.proofs.Variables.{question_within}
 use Rattle.hukolearu.specs.Calls as Calls
 use Rattle.hukolearu.specs.Calls.{Given, search_call}
 use Rattle.hukolearu.specs.Door.{behind, first_fault}
-use Rattle.hukolearu.specs.Says.{SearchAccepted, SearchSays, ran_out_lem, none_found_lem, found_fitting, found_too_long}
+use Rattle.hukolearu.specs.Says.{SearchAccepted, SearchSays, ran_out, none_found, found_fitting, found_too_long}
 use Rattle.hukolearu.proofs.CallDemands.{search_says}
 use Rattle.asking.specs.Program.{question, asked}
 
@@ -63,8 +63,8 @@ refused_counted : {g : Given} → Refused g → Counted g
 refused_counted (refusal status place tries n) = record { steps = refl; words = refl }
 
 says_counted : {S : Setting} {budget room : ℕ} {g : Given} → SearchSays S budget room g → Counted g
-says_counted (ran_out_lem d l) = record { steps = refl; words = refl }
-says_counted (none_found_lem d l) = record { steps = refl; words = refl }
+says_counted (ran_out d l) = record { steps = refl; words = refl }
+says_counted (none_found d l) = record { steps = refl; words = refl }
 says_counted (found_fitting {steps} d l c a r) = record { steps = sym (length-map steps step_word); words = refl }
 says_counted (found_too_long d l c a r) = record { steps = refl; words = refl }
 
@@ -122,8 +122,8 @@ none_short : {status place tries : ℕ} → Short (Calls.refused status place tr
 none_short = record { steps = omega arith; words = omega arith; disjuncts = omega arith }
 
 says_short : {t : Table} {bound budget : ℕ} {g : Given} → Within t → bound ≤ 32 → SearchSays (base t bound) budget 4096 g → Short g
-says_short w b (ran_out_lem d l) = none_short
-says_short w b (none_found_lem d l) = none_short
+says_short w b (ran_out d l) = none_short
+says_short w b (none_found d l) = none_short
 says_short {t} {bound} w b (found_fitting {steps} d l c a r) = record {
   steps = omega (arith, length-map steps step_word, proof_is_short (base t bound) w b steps c);
   words = r;

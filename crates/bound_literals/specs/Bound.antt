@@ -12,13 +12,13 @@ use Rattle.rules.specs.Setting.{Setting, base}
 use Rattle.rules.specs.Substitution.{Variable, Substitution}
 use Rattle.rules.specs.Tableau.{copy_of}
 use Rattle.rules.specs.Machinery.Unify.{solution}
-use Rattle.rules.specs.Machinery.Play.{Play, begin, Performed, goes_on_lem, not_possible, clashes, circular, perform}
+use Rattle.rules.specs.Machinery.Play.{Play, begin, Performed, goes_on, not_possible, clashes, circular, perform}
 use Rattle.hukolearu.specs.Door.{Fault, first_fault, checks, behind}
 use Rattle.hukolearu.specs.declared.door.Inputs.{Inputs}
 
 -- the play after steps, if each of them can be taken
 unfoldable pub onto : Performed → (Play → Option Play) → Option Play
-onto (goes_on_lem p) next = next p
+onto (goes_on p) next = next p
 onto not_possible next = none
 onto clashes next = none
 onto circular next = none

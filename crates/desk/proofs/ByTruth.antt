@@ -23,7 +23,7 @@ use Rattle.rules.proofs.Every.{All, end, ◌also◌}
 use Rattle.rules.proofs.Firsts.{firsts_all, all_back}
 use Rattle.rules.proofs.Sameness.{disjuncts_told}
 use Rattle.hukolearu.specs.Calls.{Given, search_call}
-use Rattle.hukolearu.specs.Says.{SearchAccepted, SearchSays, ran_out_lem, none_found_lem, found_fitting, found_too_long}
+use Rattle.hukolearu.specs.Says.{SearchAccepted, SearchSays, ran_out, none_found, found_fitting, found_too_long}
 use Rattle.hukolearu.proofs.CallDemands.{search_says, found_answers_hold}
 use Rattle.desk.proofs.Words.{file_within}
 use Rattle.desk.proofs.Bools.{clash, never, and_left, and_right, or_right}
@@ -244,8 +244,8 @@ module _ (rs : List Record) (day house : ℕ) (asked : Slot) (d : day ≤ 366) (
   said-stated : {budget room : ℕ} {g : Given} → SearchSays (base (desk_table rs day house asked) 2) budget room g → g.outcome.status ≡ 0
       → TrueAnswer I (question day house asked) g.outcome.disjuncts g.answer → recorded day house asked rs ≡ true
   unfolding disjuncts per_copy firsts_by desk_table
-  said-stated (ran_out_lem s l) z true_answer = absurd (omega arith)
-  said-stated (none_found_lem s l) z true_answer = absurd (omega arith)
+  said-stated (ran_out s l) z true_answer = absurd (omega arith)
+  said-stated (none_found s l) z true_answer = absurd (omega arith)
   said-stated (found_too_long s l c a f) z true_answer = absurd (omega arith)
   said-stated (found_fitting {steps} {tries} {count} {words} s l c a f) z true_answer =
       let general = answer_is_most_general (base (desk_table rs day house asked) 2) limits (omega arith) steps c count words a c.unifiable.by c.unifiable.solves in

@@ -14,7 +14,7 @@ use Rattle.rules.specs.Order.{Ending, found, nothing}
 use Rattle.rules.proofs.Demands.{one_ending}
 use Rattle.hukolearu.specs.Calls.{Given, search_with, search_call}
 use Rattle.hukolearu.specs.declared.Outcome.{Outcome}
-use Rattle.hukolearu.specs.Says.{SearchAccepted, SearchSays, ran_out_lem, none_found_lem, found_fitting, found_too_long}
+use Rattle.hukolearu.specs.Says.{SearchAccepted, SearchSays, ran_out, none_found, found_fitting, found_too_long}
 use Rattle.hukolearu.proofs.CallDemands.{search_says}
 use Rattle.desk.specs.Records.{Slot, Record}
 use Rattle.desk.specs.Desk.{tries_for}
@@ -46,26 +46,26 @@ module _ (t : Table) (budget : ℕ) {ending : Ending} {tries : ℕ} (went : Sear
   same {e} {n} s = one_ending (base t 2) e ending n tries s went
 
   out-said : {g : Given} {room : ℕ} → SearchSays (base t 2) budget room g → g.outcome.status ≡ 11 → budget < tries
-  out-said (ran_out_lem s l) z = omega (arith, (same s).1)
-  out-said (none_found_lem s l) z = absurd (omega arith)
+  out-said (ran_out s l) z = omega (arith, (same s).1)
+  out-said (none_found s l) z = absurd (omega arith)
   out-said (found_fitting s l c a f) z = absurd (omega arith)
   out-said (found_too_long s l c a f) z = absurd (omega arith)
 
   enough-said : {g : Given} {room : ℕ} → SearchSays (base t 2) budget room g → (g.outcome.status ≡ 11 → ⊥) → tries ≤ budget
-  enough-said (ran_out_lem s l) n = absurd (n refl)
-  enough-said (none_found_lem s l) n = omega (arith, (same s).1)
+  enough-said (ran_out s l) n = absurd (n refl)
+  enough-said (none_found s l) n = omega (arith, (same s).1)
   enough-said (found_fitting s l c a f) n = omega (arith, (same s).1)
   enough-said (found_too_long s l c a f) n = omega (arith, (same s).1)
 
   none_said : {g : Given} {room : ℕ} → SearchSays (base t 2) budget room g → g.outcome.status ≡ 10 → ending ≡ nothing
-  none_said (ran_out_lem s l) z = absurd (omega arith)
-  none_said (none_found_lem s l) z = sym (same s).0
+  none_said (ran_out s l) z = absurd (omega arith)
+  none_said (none_found s l) z = sym (same s).0
   none_said (found_fitting s l c a f) z = absurd (omega arith)
   none_said (found_too_long s l c a f) z = absurd (omega arith)
 
   some_said : {g : Given} {room : ℕ} → SearchSays (base t 2) budget room g → (g.outcome.status ≡ 11 → ⊥) → (g.outcome.status ≡ 10 → ⊥) → ending ≡ nothing → ⊥
-  some_said (ran_out_lem s l) n m e = n refl
-  some_said (none_found_lem s l) n m e = m refl
+  some_said (ran_out s l) n m e = n refl
+  some_said (none_found s l) n m e = m refl
   some_said (found_fitting s l c a f) n m e = clash (cc (same s).0)
   some_said (found_too_long s l c a f) n m e = clash (cc (same s).0)
 

@@ -10,7 +10,7 @@ use Rattle.table.specs.Syntax.{Clause, all_clauses}
 use Rattle.rules.specs.Setting.{profile_of, read_step, read_steps}
 use Rattle.rules.specs.Comparison.{a_clash, a_circle}
 use Rattle.rules.specs.Verdict.{Refusal, malformed, not_allowed, not_unified, status_of}
-use Rattle.rules.specs.Machinery.Play.{Play, Performed, goes_on_lem, not_possible, clashes, circular, perform, refusal, passed, stopped, check}
+use Rattle.rules.specs.Machinery.Play.{Play, Performed, goes_on, not_possible, clashes, circular, perform, refusal, passed, stopped, check}
 use Rattle.unification.specs.State.{start_at, copies_of, literal_at, parent_at, own_words}
 use Rattle.tableaux.specs.Leaves.{chain, leaf_at}
 use Rattle.tableaux.specs.Ready.{Ready, Stands, Later}
@@ -97,7 +97,7 @@ PlayAt f m place p = Stands f m (judge f).question place p.tableau p.bindings
 
 -- how a step was judged, by what the rules say of it
 abbrev pub Says : List ℕ → List ℕ → Step → Judged → Performed → Type 0
-Says f m s (On next) o = (q : Play) × (o ≡ goes_on_lem q) × PlayAt f m next q
+Says f m s (On next) o = (q : Play) × (o ≡ goes_on q) × PlayAt f m next q
 Says f m s Malformed o = (o ≡ not_possible) × (refusal s ≡ malformed)
 Says f m s NotAllowed o = (o ≡ not_possible) × (refusal s ≡ not_allowed)
 Says f m s Clashes o = o ≡ clashes

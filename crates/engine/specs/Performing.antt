@@ -1,6 +1,6 @@
 -- Machinery: what a step on the work words comes to by the rules. No public contract speaks of it.
 use Rattle.std.specs.Prelude.{List, ◌≡◌, ℕ}
-use Rattle.rules.specs.Machinery.Play.{Play, Performed, goes_on_lem, clashes, circular}
+use Rattle.rules.specs.Machinery.Play.{Play, Performed, goes_on, clashes, circular}
 use Rattle.tableaux.specs.Ready.{Stands}
 use Rattle.tableaux.specs.declared.tableau.Place.{Place}
 use Rattle.unification.specs.declared.unify.Meeting.{Meeting}
@@ -8,6 +8,6 @@ use Rattle.unification.specs.declared.unify.Meeting.TheVariants.{Made, Clash, Ci
 
 -- what performing a step comes to, by how its pair met: on to a play that the work words stand for, or to a failure
 abbrev pub Comes : List ℕ → List ℕ → ℕ → Place → Meeting → Performed → Type 0
-Comes f m question place Made o = (q : Play) × (o ≡ goes_on_lem q) × Stands f m question place q.tableau q.bindings
+Comes f m question place Made o = (q : Play) × (o ≡ goes_on q) × Stands f m question place q.tableau q.bindings
 Comes f m question place Clash o = o ≡ clashes
 Comes f m question place Circle o = o ≡ circular

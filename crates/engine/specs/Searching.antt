@@ -11,7 +11,7 @@ use Rattle.table.specs.Syntax.{Table, all_clauses}
 use Rattle.rules.specs.Setting.{Setting, profile_of, over}
 use Rattle.rules.specs.Order as order
 use Rattle.rules.specs.Machinery.Play.{Play, passed, perform, check_from, plays, search_for}
-use Rattle.rules.specs.Machinery.Run.{Result, way, no_way, ran_out_lem, search, one, row}
+use Rattle.rules.specs.Machinery.Run.{Result, way, no_way, ran_out, search, one, row}
 use Rattle.rules.specs.Tableau.{Leaf, ancestor}
 use Rattle.rules.specs.Verdict.{finds_none, runs_out}
 use Rattle.unification.specs.Places.{most_variables, step_places, copies_place}
@@ -159,7 +159,7 @@ Leaves Out f m m' place r = count_at m ≤ most_noted → r.left ≡ 0
 abbrev pub Tells : Ending → List ℕ → List ℕ → Task → Place → Searched → Play → Result Step → Type 0
 Tells Found f m' task place r p result = Finds f m' task place r p result
 Tells Nothing f m' task place r p result = result ≡ no_way r.left
-Tells Out f m' task place r p result = r.left ≡ 0 → result ≡ ran_out_lem
+Tells Out f m' task place r p result = r.left ≡ 0 → result ≡ ran_out
 
 -- A search from a place on, against what the rules say of every play that the work words stand for, to any depth that is enough.
 pub record Runs (f m m' : List ℕ) (task : Task) (place : Place) (budget : ℕ) (r : Searched) (says : ℕ → Play → Result Step) : Type 0 where

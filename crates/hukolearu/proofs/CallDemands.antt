@@ -34,7 +34,7 @@ use Rattle.rules.specs.Substitution.{Substitution, MostGeneral}
 use Rattle.hukolearu.specs.Calls as Calls
 use Rattle.hukolearu.specs.Door.{Fault, first_fault, checks, behind}
 use Rattle.hukolearu.specs.Calls.{Given, granted, search_given, room_of, search_inputs, search_setting, search_call, check_setting, check_call}
-use Rattle.hukolearu.specs.Says.{SearchAccepted, CheckAccepted, SearchSays, ran_out_lem, none_found_lem, found_fitting, found_too_long, CheckSays, not_closed, closed_fitting, closed_too_long}
+use Rattle.hukolearu.specs.Says.{SearchAccepted, CheckAccepted, SearchSays, ran_out, none_found, found_fitting, found_too_long, CheckSays, not_closed, closed_fitting, closed_too_long}
 use Rattle.hukolearu.specs.CallDemands as Demands
 use Rattle.table.proofs.AcceptedTable.{accepted_within}
 use Rattle.hukolearu.proofs.Accepts.{asks_negative}
@@ -83,9 +83,9 @@ module _ (S : Setting) where
   module _ {budget room : ℕ} where
     pub out_exactly : {g : Given} {e : Ending} {n : ℕ} → SearchSays S budget room g → Searched S (start S.table) e n
         → (g.outcome.status ≡ 11) ↔ (budget < n)
-    out_exactly {e = e} {n} (ran_out_lem {e = d} {tries} s l) r =
+    out_exactly {e = e} {n} (ran_out {e = d} {tries} s l) r =
         let same = (one_ending S d e tries n s r).1 in (λ _. omega (arith, same), λ _. refl)
-    out_exactly {e = e} {n} (none_found_lem {tries} s l) r =
+    out_exactly {e = e} {n} (none_found {tries} s l) r =
         let same = (one_ending S nothing e tries n s r).1 in (λ z. absurd (omega arith), λ k. absurd (omega (arith, same)))
     out_exactly {e = e} {n} (found_fitting {steps} {tries} s l c a f) r =
         let same = (one_ending S (found steps) e tries n s r).1 in (λ z. absurd (omega arith), λ k. absurd (omega (arith, same)))
@@ -94,30 +94,30 @@ module _ (S : Setting) where
 
     pub none_said : {g : Given} → SearchSays S budget room g → g.outcome.status ≢ 11
         → (g.outcome.status ≡ 10) ↔ ((steps : List Step) → ¬ Closed S steps)
-    none_said (ran_out_lem s l) n = absurd (n refl)
-    none_said (none_found_lem s l) n = (λ _. no_tableau s, λ _. refl)
+    none_said (ran_out s l) n = absurd (n refl)
+    none_said (none_found s l) n = (λ _. no_tableau s, λ _. refl)
     none_said (found_fitting {steps} s l c a f) n = (λ z. absurd (omega arith), λ h. absurd (h steps c))
     none_said (found_too_long {steps} s l c a f) n = (λ z. absurd (omega arith), λ h. absurd (h steps c))
 
     pub found_said : Within S.table → S.bound ≤ 32 → {g : Given} → SearchSays S budget room g → g.outcome.status ≡ 0
         → First S (read_steps S.profile g.proof)
-    found_said limits low (ran_out_lem s l) z = absurd (omega arith)
-    found_said limits low (none_found_lem s l) z = absurd (omega arith)
+    found_said limits low (ran_out s l) z = absurd (omega arith)
+    found_said limits low (none_found s l) z = absurd (omega arith)
     found_said limits low (found_fitting {steps} s l c a f) z = rw (proof_words S limits low steps c) (first s)
     found_said limits low (found_too_long s l c a f) z = absurd (omega arith)
 
     pub closed_said : {g : Given} → SearchSays S budget room g → Demands.FoundStatus g.outcome.status → (steps : List Step) × Closed S steps
-    closed_said (ran_out_lem s l) (inl z) = absurd (omega arith)
-    closed_said (ran_out_lem s l) (inr z) = absurd (omega arith)
-    closed_said (none_found_lem s l) (inl z) = absurd (omega arith)
-    closed_said (none_found_lem s l) (inr z) = absurd (omega arith)
+    closed_said (ran_out s l) (inl z) = absurd (omega arith)
+    closed_said (ran_out s l) (inr z) = absurd (omega arith)
+    closed_said (none_found s l) (inl z) = absurd (omega arith)
+    closed_said (none_found s l) (inr z) = absurd (omega arith)
     closed_said (found_fitting {steps} s l c a f) z = (steps, c)
     closed_said (found_too_long {steps} s l c a f) z = (steps, c)
 
     pub some_said : {g : Given} → SearchSays S budget room g → (steps : List Step) → Closed S steps
         → Demands.FoundStatus g.outcome.status ⊎ (g.outcome.status ≡ 11)
-    some_said (ran_out_lem s l) steps c = inr refl
-    some_said (none_found_lem s l) steps c = absurd (no_tableau s steps c)
+    some_said (ran_out s l) steps c = inr refl
+    some_said (none_found s l) steps c = absurd (no_tableau s steps c)
     some_said (found_fitting s l d a f) steps c = inl (inl refl)
     some_said (found_too_long s l d a f) steps c = inl (inr refl)
 
@@ -173,8 +173,8 @@ module _ (I : Interpretation) (S : Setting) (limits : Within S.table) (low : S.b
       rw (same.0, same.1) (answers_hold I S limits low negative hold steps p.0 p.1)
 
   pub found_holds : {budget room : ℕ} {g : Given} → SearchSays S budget room g → g.outcome.status ≡ 0 → Demands.WordsHold I S.table g
-  found_holds (ran_out_lem s l) z = absurd (omega arith)
-  found_holds (none_found_lem s l) z = absurd (omega arith)
+  found_holds (ran_out s l) z = absurd (omega arith)
+  found_holds (none_found s l) z = absurd (omega arith)
   found_holds (found_fitting s l c a f) z = words-hold c a
   found_holds (found_too_long s l c a f) z = absurd (omega arith)
 

@@ -21,7 +21,7 @@ use Rattle.rules.specs.Machinery.Play.{Play, Checking, passed, stopped, check, c
 use Rattle.rules.proofs.Demands.{passed_closed, closed_passed, accepted_has_answer, one_answer, search_ends, one_ending, runs_out_exactly, tries_are_those_made, found_is_first, checker_follows_the_rules, one_check_verdict}
 use Rattle.hukolearu.specs.Calls as Calls
 use Rattle.hukolearu.specs.Calls.{Given, granted, answered, check_given, found_given, search_given, room_of, SearchAsked, search_setting, search_call, CheckAsked, check_setting, check_call}
-use Rattle.hukolearu.specs.Says.{SearchAccepted, CheckAccepted, SearchSays, ran_out_lem, none_found_lem, found_fitting, found_too_long, CheckSays, not_closed, closed_fitting, closed_too_long}
+use Rattle.hukolearu.specs.Says.{SearchAccepted, CheckAccepted, SearchSays, ran_out, none_found, found_fitting, found_too_long, CheckSays, not_closed, closed_fitting, closed_too_long}
 use Rattle.hukolearu.proofs.DoorLaws.{inside}
 
 -- past the door
@@ -73,10 +73,10 @@ module _ (S : Setting) (budget room : ℕ) where
   search-said : (e : Ending) (tries : ℕ) → Searched S (start S.table) e tries → Dec (budget < tries)
       → Said (search_given S room (search_for S budget))
   unfolding Said search_given
-  search-said e tries d (yes l) = rw ((runs_out_exactly S budget e tries d).1 l) (ran_out_lem d l)
+  search-said e tries d (yes l) = rw ((runs_out_exactly S budget e tries d).1 l) (ran_out d l)
   search-said nothing tries d (no n) =
       let enough : tries ≤ budget = omega arith in
-      rw (tries_are_those_made S budget nothing tries d enough) (none_found_lem d enough)
+      rw (tries_are_those_made S budget nothing tries d enough) (none_found d enough)
   search-said (found steps) tries d (no n) =
       let enough : tries ≤ budget = omega arith in
       let says = tries_are_those_made S budget (found steps) tries d enough in
@@ -141,22 +141,22 @@ module _ (S : Setting) where
 
   module _ (budget room : ℕ) where
     pub one_search_outcome : {g h : Given} → SearchSays S budget room g → SearchSays S budget room h → g ≡ h
-    one_search_outcome (ran_out_lem s l) (ran_out_lem r k) = refl
-    one_search_outcome (ran_out_lem s l) (none_found_lem r k) = let e = same_end s r in absurd (omega (arith, e.1))
-    one_search_outcome (ran_out_lem s l) (found_fitting r k c a f) = let e = same_end s r in absurd (omega (arith, e.1))
-    one_search_outcome (ran_out_lem s l) (found_too_long r k c a f) = let e = same_end s r in absurd (omega (arith, e.1))
-    one_search_outcome (none_found_lem s l) (ran_out_lem r k) = let e = same_end s r in absurd (omega (arith, e.1))
-    one_search_outcome (none_found_lem s l) (none_found_lem r k) = ap (λ (n : ℕ). Calls.refused 10 0 n) (same_end s r).1
-    one_search_outcome (none_found_lem s l) (found_fitting r k c a f) = let e = (same_end s r).0 in absurd (differ e)
-    one_search_outcome (none_found_lem s l) (found_too_long r k c a f) = let e = (same_end s r).0 in absurd (differ e)
-    one_search_outcome (found_fitting s l c a f) (ran_out_lem r k) = let e = same_end s r in absurd (omega (arith, e.1))
-    one_search_outcome (found_fitting s l c a f) (none_found_lem r k) = let e = (same_end r s).0 in absurd (differ e)
+    one_search_outcome (ran_out s l) (ran_out r k) = refl
+    one_search_outcome (ran_out s l) (none_found r k) = let e = same_end s r in absurd (omega (arith, e.1))
+    one_search_outcome (ran_out s l) (found_fitting r k c a f) = let e = same_end s r in absurd (omega (arith, e.1))
+    one_search_outcome (ran_out s l) (found_too_long r k c a f) = let e = same_end s r in absurd (omega (arith, e.1))
+    one_search_outcome (none_found s l) (ran_out r k) = let e = same_end s r in absurd (omega (arith, e.1))
+    one_search_outcome (none_found s l) (none_found r k) = ap (λ (n : ℕ). Calls.refused 10 0 n) (same_end s r).1
+    one_search_outcome (none_found s l) (found_fitting r k c a f) = let e = (same_end s r).0 in absurd (differ e)
+    one_search_outcome (none_found s l) (found_too_long r k c a f) = let e = (same_end s r).0 in absurd (differ e)
+    one_search_outcome (found_fitting s l c a f) (ran_out r k) = let e = same_end s r in absurd (omega (arith, e.1))
+    one_search_outcome (found_fitting s l c a f) (none_found r k) = let e = (same_end r s).0 in absurd (differ e)
     one_search_outcome (found_fitting s l c a f) (found_fitting r k d b g) =
         let e = same_found s r c d a b in rw (e.steps, e.tries, e.count, e.words)
     one_search_outcome (found_fitting s l c a f) (found_too_long r k d b g) =
         let e = same_found s r c d a b in absurd (omega (arith, ap length e.words))
-    one_search_outcome (found_too_long s l c a f) (ran_out_lem r k) = let e = same_end s r in absurd (omega (arith, e.1))
-    one_search_outcome (found_too_long s l c a f) (none_found_lem r k) = let e = (same_end r s).0 in absurd (differ e)
+    one_search_outcome (found_too_long s l c a f) (ran_out r k) = let e = same_end s r in absurd (omega (arith, e.1))
+    one_search_outcome (found_too_long s l c a f) (none_found r k) = let e = (same_end r s).0 in absurd (differ e)
     one_search_outcome (found_too_long s l c a f) (found_fitting r k d b g) =
         let e = same_found s r c d a b in absurd (omega (arith, ap length e.words))
     one_search_outcome (found_too_long s l c a f) (found_too_long r k d b g) = ap (λ (n : ℕ). Calls.refused 16 0 n) (same_end s r).1

@@ -7,7 +7,7 @@ use Rattle.rules.specs.Reordered.{empty, next, swapped, in_turn}
 use Rattle.rules.specs.Setting.{Profile, Setting, every_leaf, over}
 use Rattle.rules.proofs.Demands.{order_does_not_matter}
 use Rattle.hukolearu.specs.Calls.{Given, room_of, search_call}
-use Rattle.hukolearu.specs.Says.{SearchSays, ran_out_lem, none_found_lem, found_fitting, found_too_long}
+use Rattle.hukolearu.specs.Says.{SearchSays, ran_out, none_found, found_fitting, found_too_long}
 use Rattle.hukolearu.specs.CallDemands.{FoundStatus}
 use Rattle.hukolearu.specs.Typed as Typed
 use Rattle.hukolearu.proofs.CallCases.{called}
@@ -15,8 +15,8 @@ use Rattle.hukolearu.proofs.CallDemands.{search_says, closed_said, none_said}
 
 found_or_none : {S : Setting} {budget room : ℕ} {g : Given} → SearchSays S budget room g → g.outcome.status ≢ 11
     → FoundStatus g.outcome.status ⊎ (g.outcome.status ≡ 10)
-found_or_none (ran_out_lem s l) n = absurd (n refl)
-found_or_none (none_found_lem s l) n = inr refl
+found_or_none (ran_out s l) n = absurd (n refl)
+found_or_none (none_found s l) n = inr refl
 found_or_none (found_fitting s l c a f) n = inl (inl refl)
 found_or_none (found_too_long s l c a f) n = inl (inr refl)
 

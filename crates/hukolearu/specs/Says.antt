@@ -22,9 +22,9 @@ CheckAccepted a = Admitted a.file (check_inputs a)
 -- What an accepted search says: ran out, exactly when the stated order needs more tries than the budget; else none, or the steps found
 -- with their most general answer, or that the answer doesn't fit.
 pub data SearchSays (S : Setting) (budget room : ℕ) : Given → Type 0 where
-  ran_out_lem : {e : Ending} {tries : ℕ} → Searched S (start S.table) e tries → budget < tries
+  ran_out : {e : Ending} {tries : ℕ} → Searched S (start S.table) e tries → budget < tries
       → SearchSays S budget room (Calls.refused Status.ran_out 0 budget)
-  none_found_lem : {tries : ℕ} → Searched S (start S.table) nothing tries → tries ≤ budget
+  none_found : {tries : ℕ} → Searched S (start S.table) nothing tries → tries ≤ budget
       → SearchSays S budget room (Calls.refused Status.none_found 0 tries)
   found_fitting : {steps : List Step} {tries count : ℕ} {words : List ℕ} → Searched S (start S.table) (found steps) tries → tries ≤ budget
       → (c : Closed S steps) → Answers S.table c.tableau count words → length words ≤ room

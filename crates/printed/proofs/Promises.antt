@@ -41,7 +41,7 @@ use Rattle.rules.proofs.Truth.{flat_numbered}
 use Rattle.roundtrip.proofs.Saying.{question_within}
 use Rattle.roundtrip.proofs.Uses.{variable_uses_lem}
 use Rattle.hukolearu.specs.Calls.{Given, search_call, check_call}
-use Rattle.hukolearu.specs.Says.{SearchSays, ran_out_lem, none_found_lem, found_fitting, found_too_long, CheckSays, not_closed, closed_fitting, closed_too_long}
+use Rattle.hukolearu.specs.Says.{SearchSays, ran_out, none_found, found_fitting, found_too_long, CheckSays, not_closed, closed_fitting, closed_too_long}
 use Rattle.hukolearu.proofs.CallDemands.{search_says, check_says}
 use Rattle.smallest.specs.Smallest.{LeastGiven, ends_at, from_bound, search_at, smallest_call}
 use Rattle.smallest.proofs.AtTheDoor.{accepted_at, call_accepted}
@@ -200,8 +200,8 @@ module _ {text index file : List ℕ} {cs : List Clause} (asked : Asked text ind
   answered-printed within rules bound low words x = by_index words (answered_said text cs asked.says (table_in file) table-read within rules bound low words x)
 
 found_answered : {S : Setting} {budget room : ℕ} {g : Given} → SearchSays S budget room g → g.outcome.status ≡ 0 → Answered S g.answer
-found_answered (ran_out_lem s l) z = absurd (omega arith)
-found_answered (none_found_lem s l) z = absurd (omega arith)
+found_answered (ran_out s l) z = absurd (omega arith)
+found_answered (none_found s l) z = absurd (omega arith)
 found_answered (found_fitting {steps} {count = count} s l c a f) z = record { steps = steps; closed = c; count = count; answers = a }
 found_answered (found_too_long s l c a f) z = absurd (omega arith)
 

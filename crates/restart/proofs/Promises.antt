@@ -21,7 +21,7 @@ use Rattle.rules.specs.Verdict.{Refusal, malformed, not_allowed, not_unified, le
 use Rattle.rules.proofs.Demands.{larger_budget, proof_is_short}
 use Rattle.hukolearu.specs.Door.{Fault, first_fault, checks, behind, Admitted}
 use Rattle.hukolearu.specs.Calls.{Given, room_of, search_given, check_given, refused_by, SearchAsked, inputs_by, search_by, CheckAsked, check_inputs, check_by}
-use Rattle.hukolearu.specs.Says.{SearchSays, ran_out_lem, none_found_lem, found_fitting, found_too_long, CheckSays, not_closed, closed_fitting, closed_too_long}
+use Rattle.hukolearu.specs.Says.{SearchSays, ran_out, none_found, found_fitting, found_too_long, CheckSays, not_closed, closed_fitting, closed_too_long}
 use Rattle.hukolearu.specs.declared.door.Inputs.{Inputs}
 use Rattle.hukolearu.proofs.Accepts.{asks_negative}
 use Rattle.hukolearu.proofs.CallDemands.{behind_either, out_status}
@@ -71,8 +71,8 @@ module _ {file : List ℕ} {i : Inputs} where
 
 -- an accepted call has another status
 never_22 : {S : Setting} {budget room : ℕ} {g : Given} → SearchSays S budget room g → g.outcome.status ≡ 22 → ⊥
-never_22 (ran_out_lem s l) e = omega arith
-never_22 (none_found_lem s l) e = omega arith
+never_22 (ran_out s l) e = omega arith
+never_22 (none_found s l) e = omega arith
 never_22 (found_fitting s l c a f) e = omega arith
 never_22 (found_too_long s l c a f) e = omega arith
 
@@ -90,8 +90,8 @@ never_checked_22 (closed_too_long d a f) e = omega arith
 
 -- the length
 short_said : (S : Setting) → Within S.table → S.bound ≤ 32 → {budget room : ℕ} {g : Given} → SearchSays S budget room g → length g.proof ≤ longest_proof S.profile
-short_said S limits low (ran_out_lem s l) = omega arith
-short_said S limits low (none_found_lem s l) = omega arith
+short_said S limits low (ran_out s l) = omega arith
+short_said S limits low (none_found s l) = omega arith
 short_said S limits low (found_fitting {steps} s l c a f) = rw (length-map steps step_word) (proof_is_short S limits low steps c)
 short_said S limits low (found_too_long s l c a f) = omega arith
 

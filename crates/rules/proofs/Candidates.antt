@@ -403,11 +403,21 @@ steps_compared S x (Reduction h) Malformed e f = absurd (malformed_not_taken S x
 steps_compared S x (Extension i j) Malformed e f = absurd (malformed_not_taken S x x.leaves f)
 steps_compared S x Malformed s e f = absurd (malformed_not_taken S x x.leaves e)
 
+neither_before : {ss rs ps qs : List Step} → Before ss rs → Before qs ps → ss ≡ ps → rs ≡ qs → ⊥
+neither_before (at_once {s = s} {t = r} p) (at_once {s = u} {t = v} q) e f =
+    let a : s ≡ v = cc in
+    let b : r ≡ u = cc in
+    let q' : Precedes r s = rw (a, b) q in precedes_not_itself s (precedes_through s r s p q')
+neither_before (at_once {s = s} {t = r} p) (later c) e f =
+    let b : r ≡ s = cc in
+    let p' : Precedes s s = rw b at p in precedes_not_itself s p'
+neither_before (later b) (at_once {s = u} {t = v} q) e f =
+    let g : v ≡ u = cc in
+    let q' : Precedes u u = rw g at q in precedes_not_itself u q'
+neither_before (later b) (later c) e f = neither_before b c (cc) (cc)
+
 pub never_both_before : {ss rs : List Step} → Before ss rs → Before rs ss → ⊥
-never_both_before (at_once {s = s} {t = r} p) (at_once q) = precedes_not_itself s (precedes_through s r s p q)
-never_both_before (at_once {s = s} p) (later c) = precedes_not_itself s p
-never_both_before (later {s = s} b) (at_once q) = precedes_not_itself s q
-never_both_before (later b) (later c) = never_both_before b c
+never_both_before b c = neither_before b c refl refl
 
 -- where no leaf is open no step is taken
 pub no_leaf_no_step : (S : Setting) (x : Tableau) (s : Step) {y : Tableau} → x.leaves ≡ [] → stepped S x s ≡ some y → ⊥

@@ -12,7 +12,7 @@ use Rattle.rules.specs.Setting.{Setting}
 use Rattle.rules.specs.Tableau.{Leaf, Tableau, start, stepped, Made, as_it_stands, by_step, Closed}
 use Rattle.rules.specs.Comparison.{Reason}
 use Rattle.rules.specs.Verdict.{not_unified, CheckVerdict, accepted, refused, Checks, no_leaf, some_leaf, no_step, no_tableau, no_unifier, taken}
-use Rattle.rules.specs.Machinery.Play.{Play, begin, Performed, goes_on_lem, not_possible, clashes, circular, closes_pair, perform, Checking, passed, stopped, at_end, refusal, onwards, check_from, check, checked}
+use Rattle.rules.specs.Machinery.Play.{Play, begin, Performed, goes_on, not_possible, clashes, circular, closes_pair, perform, Checking, passed, stopped, at_end, refusal, onwards, check_from, check, checked}
 use Rattle.rules.proofs.System.Clash.{clash}
 use Rattle.rules.proofs.Candidates.{malformed_not_taken}
 use Rattle.rules.proofs.Comparison.{one_reason_of_the_newest, newest_not_unifiable}
@@ -35,7 +35,7 @@ module _ (S : Setting) where
       → ((q : Play) → Sound q → Checks S q.tableau (suc place) ss (checked (check_from S q (suc place) ss)))
       → Checks S p.tableau place (s ∷ ss) (checked (onwards o s place (λ q. check_from S q (suc place) ss)))
   unfolding onwards checked
-  goes p s ss place (goes_on_lem q) h rest = taken h.0 (unifiable q h.1) (rest q h.1)
+  goes p s ss place (goes_on q) h rest = taken h.0 (unifiable q h.1) (rest q h.1)
   goes p s ss place not_possible h rest = refuses p s ss place h
   goes p s ss place clashes h rest = no_unifier h.1 h.2
   goes p s ss place circular h rest = no_unifier h.1 h.2
@@ -135,7 +135,7 @@ module _ (S : Setting) where
   onwards-sound : (p : Play) (s : Step) (ss : List Step) (place : ℕ) (o : Performed) → Told S p s o
       → ((q : Play) → Sound q → SoundIf (check_from S q (suc place) ss)) → SoundIf (onwards o s place (λ q. check_from S q (suc place) ss))
   unfolding SoundIf onwards
-  onwards-sound p s ss place (goes_on_lem q) h rest = rest q h.1
+  onwards-sound p s ss place (goes_on q) h rest = rest q h.1
   onwards-sound p s ss place not_possible h rest = tt
   onwards-sound p s ss place clashes h rest = tt
   onwards-sound p s ss place circular h rest = tt

@@ -237,17 +237,39 @@ wrong_inside : {f : ℕ} {ss ts : Terms Variable} {r q : Reason} → Wrong (app 
 wrong_inside (symbols d) a = absurd (d (refl, a))
 
 mutual
-  fails_one : {s t : Term Variable} {r q : Reason} → Fails s t q → Fails s t r → r ≡ q
-  fails_one (this_pair w) (this_pair v) = wrong_one v w
-  fails_one (this_pair w) (inside a h) = sym (wrong_inside w a)
-  fails_one (inside a h) (this_pair w) = wrong_inside w a
-  fails_one (inside a h) (inside b k) = among_one h k
+  fails_alike : {s t s' t' : Term Variable} {r q : Reason} → Fails s t q → Fails s' t' r → s ≡ s' → t ≡ t' → r ≡ q
+  fails_alike {s = s} {t} {r = r} (this_pair w) (this_pair v) e f =
+      let v' : Wrong s t r = rw (e, f) v in wrong_one v' w
+  fails_alike {q = q} (this_pair w) (inside {f = g} {ss} {ts} a h) e f =
+      let w' : Wrong (app g ss) (app g ts) q = rw (← e, ← f) w in sym (wrong_inside w' a)
+  fails_alike {r = r} (inside {f = g} {ss} {ts} a h) (this_pair w) e f =
+      let w' : Wrong (app g ss) (app g ts) r = rw (e, f) w in wrong_inside w' a
+  fails_alike (inside a h) (inside b k) e f = among_alike h k (cc) (cc)
 
-  among_one : {ss ts : Terms Variable} {r q : Reason} → FailsAmong ss ts q → FailsAmong ss ts r → r ≡ q
-  among_one (in_first h) (in_first k) = fails_one h k
-  among_one (in_first {s} {t} h) (in_rest {σ = σ} m k) = absurd (fails_refuted h σ (pair_solved σ s t m.solves))
-  among_one (in_rest {σ = σ} m h) (in_first {s} {t} k) = absurd (fails_refuted k σ (pair_solved σ s t m.solves))
-  among_one (in_rest {ss = ss} {ts} m h) (in_rest n k) = among_one h (among_any n m ss ts k)
+  among_alike : {ss ts ss' ts' : Terms Variable} {r q : Reason} → FailsAmong ss ts q → FailsAmong ss' ts' r → ss ≡ ss' → ts ≡ ts' → r ≡ q
+  among_alike (in_first h) (in_first k) e f = fails_alike h k (cc) (cc)
+  among_alike {q = q} (in_first {s} {t} h) (in_rest {s = s'} {t = t'} {σ = σ} m k) e f =
+      let a : s ≡ s' = cc in
+      let b : t ≡ t' = cc in
+      let h' : Fails s' t' q = rw (← a, ← b) h in absurd (fails_refuted h' σ (pair_solved σ s' t' m.solves))
+  among_alike {r = r} (in_rest {s} {t} {σ = σ} m h) (in_first {s = s'} {t = t'} k) e f =
+      let a : s ≡ s' = cc in
+      let b : t ≡ t' = cc in
+      let k' : Fails s t r = rw (a, b) k in absurd (fails_refuted k' σ (pair_solved σ s t m.solves))
+  among_alike {r = r} (in_rest {s} {t} {ss} {ts} m h) (in_rest {s = s'} {t = t'} {ss = ss'} {ts = ts'} {σ = σ'} n k) e f =
+      let a : s ≡ s' = cc in
+      let b : t ≡ t' = cc in
+      let c : ss ≡ ss' = cc in
+      let d : ts ≡ ts' = cc in
+      let n' : MostGeneral σ' (record { left = s; right = t } ∷ []) = rw (a, b) n in
+      let k' : FailsAmong (unders σ' ss) (unders σ' ts) r = rw (c, d) k in
+      among_alike h (among_any n' m ss ts k') refl refl
+
+fails_one : {s t : Term Variable} {r q : Reason} → Fails s t q → Fails s t r → r ≡ q
+fails_one h k = fails_alike h k refl refl
+
+among_one : {ss ts : Terms Variable} {r q : Reason} → FailsAmong ss ts q → FailsAmong ss ts r → r ≡ q
+among_one h k = among_alike h k refl refl
 
 pub one_reason : Promises.OneReason
 one_reason s t r q h k = fails_one k h

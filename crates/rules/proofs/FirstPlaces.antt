@@ -145,6 +145,7 @@ module _ {A : Type 0} (p : A → ℕ) where
 
   above : (x y : A) (xs : List A) → Each (λ n. p x < n) (map p xs) → y ∈ xs → p x < p y
   unfolding Each
+  above x y [] h m = elim m [ ]
   above x y (z ∷ xs) h first = h.0
   above x y (z ∷ xs) h (later m) = above x y xs h.1 m
 
@@ -176,6 +177,7 @@ module _ {A : Type 0} (p : A → ℕ) where
 
 each_in : {A : Type 0} (P : A → Type 0) (xs : List A) → Each P xs → (z : A) → z ∈ xs → P z
 unfolding Each
+each_in P [] h z m = elim m [ ]
 each_in P (x ∷ xs) h z first = h.0
 each_in P (x ∷ xs) h z (later m) = each_in P xs h.1 z m
 

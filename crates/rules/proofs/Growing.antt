@@ -9,7 +9,7 @@ use Rattle.words.specs.declared.Step.{Step}
 use Rattle.table.specs.Syntax.{Clause, Table, all_clauses}
 use Rattle.rules.specs.Setting.{Profile, over}
 use Rattle.rules.specs.Tableau.{Tableau, stepped, Made, as_it_stands, by_step, Closed}
-use Rattle.rules.specs.Machinery.Play.{Play, begin, Performed, goes_on_lem, not_possible, clashes, circular, closes_pair, performed, perform, Checking, passed, onwards, check_from, check}
+use Rattle.rules.specs.Machinery.Play.{Play, begin, Performed, goes_on, not_possible, clashes, circular, closes_pair, performed, perform, Checking, passed, onwards, check_from, check}
 use Rattle.rules.specs.Locality.{SameCopied}
 use Rattle.rules.specs.Growing.{Inserted, at_end, kept, added, along, Larger, moved}
 use Rattle.rules.proofs.Locality.{local_closed, local_tableau}
@@ -68,7 +68,7 @@ module _ (rules : Profile) (t : Table) {small large : ℕ} (h : small ≤ large)
   raised-onwards : (o : Performed) (s : Step) (place : ℕ) (next after : Play → Checking) → ((p : Play) → next p ≡ passed q → after p ≡ passed q)
       → onwards o s place next ≡ passed q → onwards o s place after ≡ passed q
   unfolding onwards
-  raised-onwards (goes_on_lem p) s place next after k e = k p e
+  raised-onwards (goes_on p) s place next after k e = k p e
   raised-onwards not_possible s place next after k e = clash (cc)
   raised-onwards clashes s place next after k e = clash (cc)
   raised-onwards circular s place next after k e = clash (cc)

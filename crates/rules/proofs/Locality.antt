@@ -17,7 +17,7 @@ use Rattle.rules.specs.Setting.{Profile, over}
 use Rattle.rules.specs.Tableau.{Leaf, Tableau, start, questions_with, extended, treated, stepped, Made, as_it_stands, by_step, Closed}
 use Rattle.rules.specs.Answer.{per_copy, disjuncts, answer_words}
 use Rattle.rules.specs.System.{◌∈◌, first, later}
-use Rattle.rules.specs.Machinery.Play.{Play, begin, perform, Performed, goes_on_lem, not_possible, clashes, circular, closes_pair, Checking, refusal, onwards, check_from, check}
+use Rattle.rules.specs.Machinery.Play.{Play, begin, perform, Performed, goes_on, not_possible, clashes, circular, closes_pair, Checking, refusal, onwards, check_from, check}
 use Rattle.rules.specs.Locality.{renumbered, SameClauseAt, SameCopied}
 
 -- two tests of numbers agree where the equalities do
@@ -85,7 +85,7 @@ module _ (rules : Profile) (t u : Table) (number : ℕ → ℕ) (bound : ℕ) wh
   same-onwards : (o : Performed) (s : Step) (place : ℕ) (next after : Play → Checking) → ((q : Play) → next q ≡ after q)
       → onwards o (renumbered number s) place next ≡ onwards o s place after
   unfolding onwards
-  same-onwards (goes_on_lem q) s place next after h = h q
+  same-onwards (goes_on q) s place next after h = h q
   same-onwards not_possible s place next after h = rw (same-refusal s)
   same-onwards clashes s place next after h = refl
   same-onwards circular s place next after h = refl

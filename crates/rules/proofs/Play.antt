@@ -10,7 +10,7 @@ use Rattle.rules.specs.Comparison.{a_clash, a_circle, NewestFails}
 use Rattle.rules.specs.Machinery.Unify.{solution, Unified, made, clash, circle, unify}
 use Rattle.rules.specs.Setting.{Setting}
 use Rattle.rules.specs.Tableau.{Tableau, start, stepped, closing}
-use Rattle.rules.specs.Machinery.Play.{Play, begin, Performed, goes_on_lem, not_possible, clashes, circular, bound_by, newest, closes_pair, performed, perform}
+use Rattle.rules.specs.Machinery.Play.{Play, begin, Performed, goes_on, not_possible, clashes, circular, bound_by, newest, closes_pair, performed, perform}
 use Rattle.rules.proofs.Unify.{Stands, stands_general, stands_unifiable, stands_none, stands_more}
 use Rattle.rules.proofs.Compared.{clash_newest, circle_newest}
 use Rattle.rules.proofs.Steps.{Does, reduces, extends, restarts, does}
@@ -45,7 +45,7 @@ stepped_adds S x s e = does_adds (does s e)
 module _ (S : Setting) (p : Play) (s : Step) where
   -- what is known when a step was performed, or was not
   abbrev pub Told : Performed → Type 0
-  Told (goes_on_lem q) = (stepped S p.tableau s ≡ some q.tableau) × Sound q
+  Told (goes_on q) = (stepped S p.tableau s ≡ some q.tableau) × Sound q
   Told not_possible = stepped S p.tableau s ≡ none
   Told clashes = (y : Tableau) × (stepped S p.tableau s ≡ some y) × NewestFails y.pairs a_clash
   Told circular = (y : Tableau) × (stepped S p.tableau s ≡ some y) × NewestFails y.pairs a_circle

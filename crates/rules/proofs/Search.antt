@@ -17,7 +17,7 @@ use Rattle.rules.specs.Setting.{restarting, most_opened, longest_proof, Setting}
 use Rattle.rules.specs.Tableau.{Leaf, Tableau, start, copy_of, hang, others, stepped, Made, as_it_stands, by_step, Closed}
 use Rattle.rules.specs.Order as Stated
 use Rattle.rules.specs.Order.{Ending, found, nothing, all_closed, stated, Precedes, candidates}
-use Rattle.rules.specs.Machinery.Play.{Play, begin, Performed, goes_on_lem, not_possible, clashes, circular, perform, afterwards, plays, most_added, most_more, steps_left, reported, search_for}
+use Rattle.rules.specs.Machinery.Play.{Play, begin, Performed, goes_on, not_possible, clashes, circular, perform, afterwards, plays, most_added, most_more, steps_left, reported, search_for}
 use Rattle.rules.specs.Verdict as Verdict
 use Rattle.rules.specs.Verdict.{SearchVerdict, ended, Searches}
 use Rattle.rules.specs.Machinery.Run.{system, verdict, search}
@@ -28,7 +28,7 @@ use Rattle.rules.proofs.System.Clash.{clash}
 use Rattle.rules.proofs.System.Induction.{Claim, claimed}
 use Rattle.rules.proofs.Lists.{none_some, length_others}
 use Rattle.rules.proofs.Steps.{Does, reduces, extends, restarts, does, restarts_some}
-use Rattle.rules.proofs.Every.{some_same, Ordered, ◌ahead◌, all_member}
+use Rattle.rules.proofs.Every.{some_same, Ordered, done, ◌ahead◌, all_member}
 use Rattle.rules.proofs.Candidates.{candidate_steps, steps_candidate, candidates_ordered, no_leaf_no_step}
 use Rattle.rules.proofs.Comparison.{newest_not_unifiable}
 use Rattle.rules.proofs.Play.{Sound, sound_begin, unifiable, Told, told}
@@ -52,7 +52,7 @@ module _ (S : Setting) where
   -- a move that leads on, and one that fails
   next_known : (p : Play) (s : Step) {q : Play} (o : Performed) → Told S p s o → afterwards o ≡ some q → (stepped S p.tableau s ≡ some q.tableau) × Sound q
   unfolding afterwards
-  next_known p s {q} (goes_on_lem r) h e = let f : r ≡ q = cc in rw f at h
+  next_known p s {q} (goes_on r) h e = let f : r ≡ q = cc in rw f at h
   next_known p s not_possible h e = absurd (none_some e)
   next_known p s clashes h e = absurd (none_some e)
   next_known p s circular h e = absurd (none_some e)
@@ -62,7 +62,7 @@ module _ (S : Setting) where
 
   none-known : (p : Play) (s : Step) (o : Performed) → Told S p s o → {y : Tableau} → stepped S p.tableau s ≡ some y → afterwards o ≡ none → ¬ Unifiable y.pairs
   unfolding afterwards
-  none-known p s (goes_on_lem r) h f e u = clash (cc)
+  none-known p s (goes_on r) h f e u = clash (cc)
   none-known p s not_possible h f e u = clash (cc)
   none-known p s clashes h {y} f e u = let k : y ≡ h.0 = cc h.1 in newest_not_unifiable h.2 (rw k at u)
   none-known p s circular h {y} f e u = let k : y ≡ h.0 = cc h.1 in newest_not_unifiable h.2 (rw k at u)
@@ -134,6 +134,7 @@ module _ (S : Setting) where
 
   -- the order of the ways is the stated order
   earlier_precedes : {m n : Step} {ss : List Step} → Ordered Precedes ss → Earlier m n ss → Precedes m n
+  earlier_precedes done x = elim x [ ]
   earlier_precedes (a ahead o) (heads i) = all_member a (to_member i)
   earlier_precedes (a ahead o) (behind e) = earlier_precedes o e
 

@@ -8,7 +8,7 @@ use Prim.Native.Nat.{ℕ, ◌+◌, ◌-◌, ◌≤◌, ◌<◌}
 use native.Mathlib.Omega.{arith}
 use lib.ListN.{length}
 use Rattle.rules.specs.System.{System, Ending, found, nothing, Searched}
-use Rattle.rules.specs.Machinery.Run.{Program, system, way, no_way, ran_out_lem, verdict, search}
+use Rattle.rules.specs.Machinery.Run.{Program, system, way, no_way, ran_out, verdict, search}
 use Clash.{clash}
 use Ways.{Way, here, step, Before, Distinct, Determined, Bounded}
 use Answers.{answer, answer-unique}
@@ -101,7 +101,7 @@ module _ (P : Program) (B : Bounded (system P)) where
         → search P depth budget s ≡ verdict o (budget - n)
     run_within {o} {n} d budget h = search_pays P B good d depth deep budget ∙ pay_within n budget (verdict o) h
 
-    pub run_beyond : {o : Ending Move} {n : ℕ} → Searched (system P) s o n → (budget : ℕ) → budget < n → search P depth budget s ≡ ran_out_lem
+    pub run_beyond : {o : Ending Move} {n : ℕ} → Searched (system P) s o n → (budget : ℕ) → budget < n → search P depth budget s ≡ ran_out
     run_beyond {o} {n} d budget h = search_pays P B good d depth deep budget ∙ pay_beyond n budget (verdict o) h
 
     -- And only so: the outcome that it gives is the answer's, the tries that it made are the tries needed,
@@ -114,7 +114,7 @@ module _ (P : Program) (B : Bounded (system P)) where
         let made : a.1 ≡ budget - left = omega (arith, same.1) in
         (omega (arith, same.1), subst₂ (λ (x : Ending Move) (n : ℕ). Searched (system P) s x n) same.0 made a.2)
 
-    pub ran_out_tells : {o : Ending Move} {n : ℕ} → Searched (system P) s o n → (budget : ℕ) → search P depth budget s ≡ ran_out_lem → budget < n
+    pub ran_out_tells : {o : Ending Move} {n : ℕ} → Searched (system P) s o n → (budget : ℕ) → search P depth budget s ≡ ran_out → budget < n
     ran_out_tells {o} {n} d budget e = unpaid n budget o (sym (search_pays P B good d depth deep budget) ∙ e)
 
     -- A larger budget gives the same outcome after the same tries.
@@ -138,7 +138,7 @@ module _ (P : Program) (B : Bounded (system P)) where
         → Way (system P) s p × ((q : List Move) → Way (system P) s q → (q ≡ p) ⊎ Before (system P) s p q)
     run_found budget p left e = searched_first (system P) (determined P) (run_tells budget (found p) left e).1
 
-    pub no_way_run : (budget : ℕ) → search P depth budget s ≢ ran_out_lem → ((q : List Move) → ¬ Way (system P) s q)
+    pub no_way_run : (budget : ℕ) → search P depth budget s ≢ ran_out → ((q : List Move) → ¬ Way (system P) s q)
         → (left : ℕ) × (search P depth budget s ≡ no_way left)
     no_way_run budget kept_on h = let x = decided _ kept_on in go x.0 x.1 x.2
       where
@@ -147,7 +147,7 @@ module _ (P : Program) (B : Bounded (system P)) where
         go (found p) left e = absurd (h p (run_found budget p left e).0)
         go nothing left e = (left, e)
 
-    pub way_run : (budget : ℕ) → search P depth budget s ≢ ran_out_lem → {q : List Move} → Way (system P) s q
+    pub way_run : (budget : ℕ) → search P depth budget s ≢ ran_out → {q : List Move} → Way (system P) s q
         → (p : List Move) × (left : ℕ) × (search P depth budget s ≡ way p left)
     way_run budget kept_on {q} w = let x = decided _ kept_on in go x.0 x.1 x.2
       where

@@ -406,6 +406,7 @@ another_order = (
 -- the steps of the example, behind another clause
 of_one : {A : Type 0} {m a : A} → m ∈ (a ∷ []) → m ≡ a
 of_one first = refl
+of_one (later m) = elim m [ ]
 
 of_two : {A : Type 0} {m a b : A} → m ∈ (a ∷ b ∷ []) → (m ≡ a) ⊎ (m ≡ b)
 of_two first = inl refl

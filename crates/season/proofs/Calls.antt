@@ -226,10 +226,10 @@ module _ (a : SeasonAsked) {entry : Entered} (says : entry ≡ entry_of a.table 
           → Reported a.table a.entries a.list report proof proof' answer answer' → Gives a report proof proof' answer answer'
       unfolding first_fault report_of proof_after answer_after behind
       gives_report n {proof = proof} {answer = answer} room r =
-          let none_found_lem : season_fault a ≡ none = last-check ∙ rw (← fits, not-false b n) in
+          let none_found : season_fault a ≡ none = last-check ∙ rw (← fits, not-false b n) in
           let runs = same_runs a let_in.enough_work let_in.enough_proof (entries_of a.entries) in
           record {
-            numbers = rw none_found_lem (r.numbers ∙ rw (← room) (ap counted runs));
-            steps = rw none_found_lem (r.steps ∙ rw (← room) (ap (λ (rs : List Run). proof_left rs proof) runs));
-            words = rw none_found_lem (r.words ∙ rw (← room) (ap (λ (rs : List Run). answer_left rs answer) runs));
+            numbers = rw none_found (r.numbers ∙ rw (← room) (ap counted runs));
+            steps = rw none_found (r.steps ∙ rw (← room) (ap (λ (rs : List Run). proof_left rs proof) runs));
+            words = rw none_found (r.words ∙ rw (← room) (ap (λ (rs : List Run). answer_left rs answer) runs));
           }

@@ -32,9 +32,9 @@ module _ (ws : List ℕ) (h i : ℕ) {whole : ℕ} (so_far : whole ≡ mixed h (
   pub mix_done : length ws ≤ i → h ≡ whole
   mix_done l = sym (so_far ∙ mixed_end ws i l h)
 
-pub goes_on_lem : (own question : List ℕ) {begun r : ℕ} → begun ≡ fingerprint own → r ≡ mixed begun (bytes_of question) → r ≡ fingerprint (own ++ question)
+pub goes_on : (own question : List ℕ) {begun r : ℕ} → begun ≡ fingerprint own → r ≡ mixed begun (bytes_of question) → r ≡ fingerprint (own ++ question)
 unfolding fnv
-goes_on_lem own question {begun} e m =
+goes_on own question {begun} e m =
     let first : mixed 0x811C9DC5 (bytes_of (take (length own) (own ++ question))) ≡ begun = rw (take-append_seam own question) (sym e) in
     m ∙ sym (mixed_part (length own) (own ++ question) 0x811C9DC5 ∙ rw (first, drop-append_seam own question))
 
@@ -127,7 +127,7 @@ module _ (table file : List ℕ) (small : Words table) {begun : ℕ} (t : Tabled
         file-stands : twice ≡ at_front (file_with table question) file
         unfolding file_with
         file-stands =
-            let print = goes_on_lem (own_part table) question t.mixed mixes in
+            let print = goes_on (own_part table) question t.mixed mixes in
             seals ∙ (λ i. behind (body-stands i) (body-long i) (is-first i ∷ is-second i ∷ print i ∷ body-long i ∷ []))
             ∙ more_behind (body_with table question) (trailer_words (body_with table question) (trailer table 0) (trailer table 1)) file
 

@@ -27,7 +27,7 @@ use Rattle.rules.specs.Setting.{longest_proof, Setting}
 use Rattle.rules.proofs.Demands.{proof_is_short}
 use Rattle.hukolearu.specs.Door.{Fault, Check, first_fault, checks, work_after, behind}
 use Rattle.hukolearu.specs.Calls.{Given, room_of, SearchAsked, search_inputs, search_setting, search_call, search_with, at_front}
-use Rattle.hukolearu.specs.Says.{SearchAccepted, SearchSays, ran_out_lem, none_found_lem, found_fitting, found_too_long}
+use Rattle.hukolearu.specs.Says.{SearchAccepted, SearchSays, ran_out, none_found, found_fitting, found_too_long}
 use Rattle.hukolearu.specs.CallDemands.{FoundStatus, search_status}
 use Rattle.hukolearu.specs.declared.Outcome.{Outcome}
 use Rattle.hukolearu.proofs.CallDemands.{search_says, never_none}
@@ -274,8 +274,8 @@ too_long_exactly a e = (
 -- REFUSED
 accepted_found : {S : Setting} {budget room : ℕ} {g : Given} → SearchSays S budget room g → result_of g.outcome ≡ 5 → ⊥
 unfolding result_of
-accepted_found (ran_out_lem s l) e = omega arith
-accepted_found (none_found_lem s l) e = omega arith
+accepted_found (ran_out s l) e = omega arith
+accepted_found (none_found s l) e = omega arith
 accepted_found (found_fitting {count = count} s l c w f) e = go (eqb count 1) e
   where
     go : (b : Bool) → ◌≡◌ {A = ℕ} (cond b 0 1) 5 → ⊥
@@ -365,8 +365,8 @@ refused_nothing a w p e h = go (dec_lt (length a.list) (e.place + e.count))
 -- THE BUFFERS
 short_said : {S : Setting} {budget room : ℕ} {g : Given} → Within S.table → S.bound ≤ 32 → SearchSays S budget room g
     → (length g.proof ≤ longest_proof S.profile) × (length g.answer ≤ room)
-short_said within low (ran_out_lem s l) = (omega arith, omega arith)
-short_said within low (none_found_lem s l) = (omega arith, omega arith)
+short_said within low (ran_out s l) = (omega arith, omega arith)
+short_said within low (none_found s l) = (omega arith, omega arith)
 short_said {S} within low (found_fitting {steps = steps} s l c w f) =
     (omega (arith, length-map steps step_word, proof_is_short S within low steps c), f)
 short_said within low (found_too_long s l c w f) = (omega arith, omega arith)

@@ -10,7 +10,7 @@ use lib.ListN.{length}
 use Rattle.table.specs.File.{judge, table_in}
 use Rattle.rules.specs.Setting.{Setting, base}
 use Rattle.hukolearu.specs.Calls.{Given, room_of, at_front}
-use Rattle.hukolearu.specs.Says.{SearchSays, ran_out_lem, none_found_lem, found_fitting, found_too_long}
+use Rattle.hukolearu.specs.Says.{SearchSays, ran_out, none_found, found_fitting, found_too_long}
 use Rattle.hukolearu.specs.Telling.{Told, Passed}
 use Rattle.hukolearu.specs.declared.Outcome.{Outcome}
 use Rattle.hukolearu.proofs.Says.{search_given_lem}
@@ -26,10 +26,10 @@ ended_else bound {status} n = rw (ne_eqb status 11 n)
 
 -- one bound of any searches
 module _ (search : ℕ → ℕ → Given) (budget bound more used : ℕ) where
-  pub goes_on_lem : (search bound (budget - used)).outcome.status ≡ 10
+  pub goes_on : (search bound (budget - used)).outcome.status ≡ 10
       → from_bound search budget bound (suc more) used ≡ from_bound search budget (suc bound) more (used + (search bound (budget - used)).outcome.tries)
   unfolding from_bound
-  goes_on_lem e = rw (eq-eqb (search bound (budget - used)).outcome.status 10 e)
+  goes_on e = rw (eq-eqb (search bound (budget - used)).outcome.status 10 e)
 
   pub ends : ((search bound (budget - used)).outcome.status ≡ 10 → ⊥)
       → from_bound search budget bound (suc more) used ≡ ends_at bound used (search bound (budget - used))
@@ -43,14 +43,14 @@ none_left search budget bound used = refl
 -- what the base's searches say
 module _ {S : Setting} {budget room : ℕ} where
   pub tries_within : {g : Given} → SearchSays S budget room g → g.outcome.tries ≤ budget
-  tries_within (ran_out_lem s l) = omega arith
-  tries_within (none_found_lem s l) = l
+  tries_within (ran_out s l) = omega arith
+  tries_within (none_found s l) = l
   tries_within (found_fitting s l c a f) = l
   tries_within (found_too_long s l c a f) = l
 
   pub none_writes : {g : Given} → SearchSays S budget room g → g.outcome.status ≡ 10 → (g.proof ≡ []) × (g.answer ≡ [])
-  none_writes (ran_out_lem s l) e = (refl, refl)
-  none_writes (none_found_lem s l) e = (refl, refl)
+  none_writes (ran_out s l) e = (refl, refl)
+  none_writes (none_found s l) e = (refl, refl)
   none_writes (found_fitting s l c a f) e = absurd (omega arith)
   none_writes (found_too_long s l c a f) e = (refl, refl)
 
@@ -131,7 +131,7 @@ module _ {f m p₀ a₀ p a : List ℕ} {question limit budget bound used : ℕ}
             rest =
                 let on : from_bound (search_inside (table_in f) (length a₀)) budget (bound + 1) (limit + 1 - (bound + 1)) (used + o.tries)
                 ≡ from_bound (search_inside (table_in f) (length a₀)) budget bound (limit + 1 - bound) used =
-                rw (left, more, tries, add-one bound) (sym (goes_on_lem (search_inside (table_in f) (length a₀)) budget bound (limit - bound) used same)) in
+                rw (left, more, tries, add-one bound) (sym (goes_on (search_inside (table_in f) (length a₀)) budget bound (limit - bound) used same)) in
                 on ∙ x.rest;
           }
 

@@ -23,7 +23,7 @@ use Rattle.rules.proofs.Demands.{order_does_not_matter}
 use Rattle.smallest.specs.Smallest.{LeastGiven, ends_at, none_up_to, from_bound, search_at, refused_all, smallest_call}
 use Rattle.smallest.specs.SmallestDemands as Demands
 use Rattle.smallest.specs.SmallestDemands.{Provable, Needs, untold, with_limit}
-use Rattle.smallest.proofs.Bounds.{goes_on_lem, ends, none_left, ended_else}
+use Rattle.smallest.proofs.Bounds.{goes_on, ends, none_left, ended_else}
 use Rattle.smallest.proofs.AtTheDoor.{accepted_at, call_accepted}
 use Rattle.smallest.proofs.Trials.{Trial, ran, none as none_at_all, proof, trial, needs_some, needs_one}
 
@@ -123,11 +123,11 @@ module _ (search : ℕ → ℕ → Given) (steady : (k b d : ℕ) → (search k 
       go later (yes e) =
           let same = steady bound (budget - used) (larger - used) (λ z. let y : ◌≡◌ {A = ℕ} 10 11 = sym e ∙ z in omega arith) (omega arith) in
           let long : (search bound (larger - used)).outcome.status ≡ 10 = rw same e in
-          let on = goes_on_lem search budget bound more used e in
+          let on = goes_on search budget bound more used e in
           let rest = later (used + (search bound (budget - used)).outcome.tries) (rw (← on) n) in
           let then : from_bound search larger (suc bound) more (used + (search bound (larger - used)).outcome.tries)
           ≡ from_bound search budget (suc bound) more (used + (search bound (budget - used)).outcome.tries) = rw same rest in
-          goes_on_lem search larger bound more used long ∙ then ∙ sym on
+          goes_on search larger bound more used long ∙ then ∙ sym on
       go later (no e) =
           let over = ends search budget bound more used e in
           let same = steady bound (budget - used) (larger - used) (λ z. (rw over at n) z) (omega arith) in
@@ -150,8 +150,8 @@ module _ (search : ℕ → ℕ → Given) (budget extra : ℕ) where
           → from_bound search budget (suc bound) (more + extra) u ≡ from_bound search budget (suc bound) more u)
           → Dec ((search bound (budget - used)).outcome.status ≡ 10) → from_bound search budget bound (suc (more + extra)) used ≡ from_bound search budget bound (suc more) used
       go later (yes e) =
-          let on = goes_on_lem search budget bound more used e in
-          goes_on_lem search budget bound (more + extra) used e ∙ later (used + (search bound (budget - used)).outcome.tries) (rw (← on) f) ∙ sym on
+          let on = goes_on search budget bound more used e in
+          goes_on search budget bound (more + extra) used e ∙ later (used + (search bound (budget - used)).outcome.tries) (rw (← on) f) ∙ sym on
       go later (no e) = ends search budget bound (more + extra) used e ∙ sym (ends search budget bound more used e)
 
 -- the call

@@ -13,12 +13,12 @@ use Rattle.rules.specs.Tableau.{start, Closed}
 use Rattle.rules.specs.Order.{Ending, found, nothing, Searched}
 use Rattle.rules.proofs.Demands.{search_ends, one_ending}
 use Rattle.hukolearu.specs.Calls.{Given, refused, room_of, SearchAsked}
-use Rattle.hukolearu.specs.Says.{SearchAccepted, SearchSays, ran_out_lem, none_found_lem, found_fitting, found_too_long}
+use Rattle.hukolearu.specs.Says.{SearchAccepted, SearchSays, ran_out, none_found, found_fitting, found_too_long}
 use Rattle.hukolearu.specs.CallDemands.{FoundStatus}
 use Rattle.hukolearu.proofs.CallDemands.{search_says, none_said_exactly}
 use Rattle.smallest.specs.Smallest.{LeastGiven, ends_at, none_up_to, from_bound, search_at}
 use Rattle.smallest.specs.SmallestDemands.{Provable, Needs, past_the_limit, with_a_proof, without}
-use Rattle.smallest.proofs.Bounds.{goes_on_lem, ends, none_left}
+use Rattle.smallest.proofs.Bounds.{goes_on, ends, none_left}
 use Rattle.smallest.proofs.AtTheDoor.{accepted_at}
 
 -- the bounds need one number of tries
@@ -105,16 +105,16 @@ module _ (a : SearchAsked) (ok : SearchAccepted a) where
         (proof {bound = bound} {used = used} {k = bound} used (with_a_proof l s) refl (omega arith) (omega arith) l (λ j x y. absurd (omega arith)) (steps, c) f (sym e))
 
     one-bound : (g : Given) → SearchSays (base t bound) (a.budget - used) (room_of a.answer_room) g → search_at a bound (a.budget - used) ≡ g → Here
-    one-bound g (ran_out_lem {e = d} s k) e =
+    one-bound g (ran_out {e = d} s k) e =
         let later = needs_some t a.bound more (suc bound) (omega arith) in
         let need = needs-by t a.bound d l s later.1 in
         let sum : used + (a.budget - used) ≡ a.budget = omega arith in
         let over : ends_at bound used (refused 11 0 (a.budget - used)) ≡ record { bound = 0; given = refused 11 0 a.budget } = rw sum in
         rw (ends (search_at a) a.budget bound more used (λ z. let y : ◌≡◌ {A = ℕ} 11 10 = ap (λ (h : Given). h.outcome.status) (sym e) ∙ z in omega arith), e)
         (rw over (ran {bound = bound} {used = used} need.1 (omega (arith, need.2))))
-    one-bound g (none_found_lem {tries} s k) e =
+    one-bound g (none_found {tries} s k) e =
         let said : (search_at a bound (a.budget - used)).outcome.status ≡ 10 = ap (λ (h : Given). h.outcome.status) e in
-        rw (goes_on_lem (search_at a) a.budget bound more used said, e) (earlier l s (no_proof (a.budget - used) l said) (rest tries (omega arith)))
+        rw (goes_on (search_at a) a.budget bound more used said, e) (earlier l s (no_proof (a.budget - used) l said) (rest tries (omega arith)))
     one-bound g (found_fitting s k c x f) e = ends-here e (inl refl) (λ z. omega arith) s k c
     one-bound g (found_too_long s k c x f) e = ends-here e (inr refl) (λ z. omega arith) s k c
 

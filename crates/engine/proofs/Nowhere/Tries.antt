@@ -20,7 +20,7 @@ use Rattle.rules.specs.Substitution.{Variable}
 use Rattle.rules.specs.Tableau.{Leaf, Tableau, atom, fits, copy_of, hang}
 use Rattle.rules.specs.Order.{reductions, candidates_at, candidates, all_closed}
 use Rattle.rules.specs.Machinery.Unify.{Bindings, Unified, made, clash, circle, after, follow, unify, unifies}
-use Rattle.rules.specs.Machinery.Play.{Play, Performed, goes_on_lem, not_possible, clashes, circular, bound_by, perform, afterwards, plays}
+use Rattle.rules.specs.Machinery.Play.{Play, Performed, goes_on, not_possible, clashes, circular, bound_by, perform, afterwards, plays}
 use Rattle.rules.specs.Machinery.Run.{no_way, one, row}
 use Rattle.rules.proofs.System.Steps.{one_fails, one_no_way, search_open, row_end}
 use Rattle.rules.proofs.Lists.{All}
@@ -51,7 +51,7 @@ use Rattle.engine.proofs.Performed.{chain_first, open_first, performs, reduced_t
 
 -- a step that fails, or comes to an open leaf without candidates
 abbrev Stuck : Setting → Performed → Type 0
-Stuck S (goes_on_lem q) = (all_closed q.tableau.leaves ≡ false) × (candidates S q.tableau ≡ [])
+Stuck S (goes_on q) = (all_closed q.tableau.leaves ≡ false) × (candidates S q.tableau ≡ [])
 Stuck S not_possible = Unit {0}
 Stuck S clashes = Unit {0}
 Stuck S circular = Unit {0}
@@ -59,7 +59,7 @@ Stuck S circular = Unit {0}
 module _ (S : Setting) (p : Play) (s : Step) (depth budget : ℕ) where
   one-stuck : (o : Performed) → perform S p s ≡ o → Stuck S o → one (plays S) (suc depth) budget p s ≡ no_way budget
   unfolding afterwards
-  one-stuck (goes_on_lem q) e h =
+  one-stuck (goes_on q) e h =
       one_no_way (plays S) (suc depth) budget p s q (ap afterwards e) budget
       (search_open (plays S) depth budget q h.0 ∙ ap (row (plays S) depth budget q) h.1 ∙ row_end (plays S) depth budget q)
   one-stuck not_possible e h = one_fails (plays S) (suc depth) budget p s (ap afterwards e)

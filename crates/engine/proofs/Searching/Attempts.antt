@@ -9,7 +9,7 @@ use lib.Seq.{drop-cons}
 use Rattle.words.specs.Steps.{step_word}
 use Rattle.words.specs.declared.Step.{Step}
 use Rattle.rules.specs.Machinery.Run.{Result, no_way, search, one}
-use Rattle.rules.specs.Machinery.Play.{Play, Performed, goes_on_lem, perform, afterwards, onwards, check_from, plays}
+use Rattle.rules.specs.Machinery.Play.{Play, Performed, goes_on, perform, afterwards, onwards, check_from, plays}
 use Rattle.rules.proofs.System.Steps.{one_fails, one_found, one_no_way, one_ran_out}
 use Rattle.unification.specs.Places.{most_leaves, step_places}
 use Rattle.unification.specs.State.{copies_of, count_of}
@@ -50,12 +50,12 @@ comes_nowhere f m question place Circle o n c = rw c
 
 -- a step that leads on
 comes_on : (f m : List ℕ) (question : ℕ) (place : Place) (meeting : Meeting) (o : Performed) → meeting ≡ Made → Comes f m question place meeting o
-    → (q : Play) × (o ≡ goes_on_lem q) × Stands f m question place q.tableau q.bindings
+    → (q : Play) × (o ≡ goes_on q) × Stands f m question place q.tableau q.bindings
 comes_on f m question place Made o e c = c
 comes_on f m question place Clash o e c = let z : ◌≡◌ {A = ℕ} 0 1 = cc in absurd (omega arith)
 comes_on f m question place Circle o e c = let z : ◌≡◌ {A = ℕ} 0 1 = cc in absurd (omega arith)
 
-goes_some : (o : Performed) (q : Play) → o ≡ goes_on_lem q → afterwards o ≡ some q
+goes_some : (o : Performed) (q : Play) → o ≡ goes_on q → afterwards o ≡ some q
 unfolding afterwards
 goes_some o q e = rw e
 
@@ -102,7 +102,7 @@ module _ {f m m₁ : List ℕ} {task : Task} {place : Place} (treats : Treats f 
       below depth q = search (plays (setting_at f task)) depth left q
 
       module _ (p : Play) (stands : Stands f m (question_at f task) place p.tableau p.bindings) (depth : ℕ) (enough : room_at f m task place ≤ depth) where
-        next : (q : Play) × (perform (setting_at f task) p (step_by candidate) ≡ goes_on_lem q) × Stands f m₁ (question_at f task) taken.place q.tableau q.bindings
+        next : (q : Play) × (perform (setting_at f task) p (step_by candidate) ≡ goes_on q) × Stands f m₁ (question_at f task) taken.place q.tableau q.bindings
         next = comes_on f m₁ (question_at f task) taken.place taken.meeting _ met (takes.comes p stands)
 
         leads : afterwards (perform (setting_at f task) p (step_by candidate)) ≡ some next.0
@@ -114,7 +114,7 @@ module _ {f m m₁ : List ℕ} {task : Task} {place : Place} (treats : Treats f 
             rw deep at (treated.tells next.0 next.2 (depth - 1) (omega (arith, onward.falls)))
 
       -- what was found below is found here, a step earlier
-      found_here : Noting f m₁ m₂ taken.place r → (p q : Play) → perform (setting_at f task) p (step_by candidate) ≡ goes_on_lem q → (depth : ℕ)
+      found_here : Noting f m₁ m₂ taken.place r → (p q : Play) → perform (setting_at f task) p (step_by candidate) ≡ goes_on q → (depth : ℕ)
           → Finds f m₂ task taken.place r q (below depth q) → Finds f m₂ task place r p (one (plays (setting_at f task)) depth left p (step_by candidate))
       unfolding check_from onwards
       found_here noting p q e depth h =
@@ -152,7 +152,7 @@ module _ {f m m₁ : List ℕ} {task : Task} {place : Place} (treats : Treats f 
           left_so Nothing s l = absurd (s refl)
           left_so Out s l = λ few. l (omega (arith, few, count_kept takes.later))
 
-          go : (e : Ending) → (e ≡ Nothing → ⊥) → Leaves e f m₁ m₂ taken.place r → (p q : Play) → perform (setting_at f task) p (step_by candidate) ≡ goes_on_lem q → (depth : ℕ)
+          go : (e : Ending) → (e ≡ Nothing → ⊥) → Leaves e f m₁ m₂ taken.place r → (p q : Play) → perform (setting_at f task) p (step_by candidate) ≡ goes_on q → (depth : ℕ)
               → Tells e f m₂ task taken.place r q (below depth q) → Tells e f m₂ task place r p (one (plays (setting_at f task)) depth left p (step_by candidate))
           go Found s l p q e depth h = found_here l p q e depth h
           go Nothing s l p q e depth h = absurd (s refl)

@@ -5,7 +5,7 @@ use Prim.Native.Nat.{ℕ, zero, suc, ◌+◌, ◌-◌, ◌≤◌, ◌<◌}
 use native.Mathlib.Omega.{arith}
 use lib.ListN.{length}
 use Rattle.words.specs.declared.Step.{Step}
-use Rattle.rules.specs.Machinery.Run.{Program, Result, way, no_way, ran_out_lem, after, spend, in_turn, one, row}
+use Rattle.rules.specs.Machinery.Run.{Program, Result, way, no_way, ran_out, after, spend, in_turn, one, row}
 use Rattle.rules.specs.Machinery.Play.{Play, plays}
 use Rattle.rules.proofs.System.Steps.{row_end, row_step, row_no_budget, row_found, row_goes_on, row_runs_out}
 use Rattle.tableaux.specs.Ready.{open_leaves, Ready, Stands}
@@ -29,7 +29,7 @@ module _ (S : Program) (depth : ℕ) (s : S.State) where
   unfolding after
   further (way p left) xs ys h = refl
   further (no_way left) xs ys h = h left
-  further ran_out_lem xs ys h = refl
+  further ran_out xs ys h = refl
 
   pub row_append : (xs ys : List S.Move) (budget : ℕ) → row S depth budget s (xs ++ ys) ≡ after (row S depth budget s xs) (λ left. row S depth left s ys)
   unfolding row in_turn after spend

@@ -5,7 +5,7 @@ use mathlib.Core.Bool.{true, false}
 use mathlib.Core.List.{List, [], ◌∷◌}
 use Prim.Native.Nat.{ℕ}
 use Rattle.rules.specs.System.{System, Ending, found, nothing, ◌∈◌, first, later, Searched}
-use Rattle.rules.proofs.System.Ways.{Earlier, heads, behind, Distinct, fresh, Way, here, step, Before, differs, agrees, Determined}
+use Rattle.rules.proofs.System.Ways.{Earlier, heads, behind, Distinct, empty, fresh, Way, here, step, Before, differs, agrees, Determined}
 use Rattle.rules.proofs.System.Clash.{clash}
 use Rattle.rules.proofs.System.Induction.{Claim, claimed}
 
@@ -108,6 +108,7 @@ module _ {A : Type 0} where
   earlier-in (behind x) = later (earlier-in x)
 
   pub earlier_asym : {m n : A} {ms : List A} → Distinct ms → Earlier m n ms → ¬ Earlier n m ms
+  earlier_asym empty x y = elim x [ ]
   earlier_asym (fresh h d) (heads i) (heads j) = h i
   earlier_asym (fresh h d) (heads i) (behind y) = h (earlier-in y)
   earlier_asym (fresh h d) (behind x) (heads j) = h (earlier-in x)
@@ -116,9 +117,21 @@ module _ {A : Type 0} where
 module _ (S : System) (one : Determined S) (distinct : (s : S.State) → Distinct (S.moves s)) where
   open S use {State, Move}
 
+  not_both : {s : State} {p q p' q' : List Move} → Before S s p q → Before S s q' p' → p ≡ p' → q ≡ q' → ⊥
+  not_both {s} (differs {m = m} {n = n} x) (differs {m = k} {n = l} y) e d =
+      let a : m ≡ l = cc in
+      let b : n ≡ k = cc in
+      let y' : Earlier n m (S.moves s) = rw (a, b) y in earlier_asym (distinct s) x y'
+  not_both {s} (differs {m = m} {n = n} x) (agrees f b) e d =
+      let a : n ≡ m = cc in
+      let x' : Earlier m m (S.moves s) = rw a at x in earlier_asym (distinct s) x' x'
+  not_both {s} (agrees f b) (differs {m = k} {n = l} y) e d =
+      let a : l ≡ k = cc in
+      let y' : Earlier k k (S.moves s) = rw a at y in earlier_asym (distinct s) y' y'
+  not_both {s} (agrees {t = t} {m = m} f b) (agrees {t = u} {m = k} {p = p'} {q = q'} f' b') e d =
+      let a : k ≡ m = cc in
+      let g : S.leads s m u = rw a at f' in
+      not_both b (subst (λ (x : State). Before S x p' q') (one.one_next f g) b') (cc) (cc)
+
   pub before_asym : {s : State} {p q : List Move} → Before S s p q → ¬ Before S s q p
-  before_asym {s} (differs x) (differs y) = earlier_asym (distinct s) x y
-  before_asym {s} (differs x) (agrees f b) = earlier_asym (distinct s) x x
-  before_asym {s} (agrees f b) (differs y) = earlier_asym (distinct s) y y
-  before_asym (agrees {t} {p} {q} f b) (agrees {t = u} f' b') =
-      before_asym b (subst (λ (x : State). Before S x q p) (one.one_next f f') b')
+  before_asym b c = not_both b c refl refl

@@ -6,20 +6,20 @@ use Prim.Native.Nat.{ℕ, zero, suc, ◌+◌, ◌-◌, ◌≤◌, ◌<◌}
 use native.Mathlib.Nat.{zero-add, suc-add, sub-zero, suc-sub-suc, not-suc-le-zero}
 use native.Mathlib.Omega.{arith}
 use Rattle.rules.specs.System.{Ending, found, nothing}
-use Rattle.rules.specs.Machinery.Run.{Result, way, no_way, ran_out_lem, verdict, put, after}
+use Rattle.rules.specs.Machinery.Run.{Result, way, no_way, ran_out, verdict, put, after}
 use Rattle.rules.proofs.System.Clash.{clash}
 
 module _ {M : Type 0} where
   pub pay : ℕ → ℕ → (ℕ → Result M) → Result M
   pay zero budget rest = rest budget
-  pay (suc n) zero rest = ran_out_lem
+  pay (suc n) zero rest = ran_out
   pay (suc n) (suc left) rest = pay n left rest
 
   pub pay_zero : (budget : ℕ) (rest : ℕ → Result M) → pay 0 budget rest ≡ rest budget
   unfolding pay
   pay_zero budget rest = refl
 
-  pub pay_broke : (n : ℕ) (rest : ℕ → Result M) → pay (suc n) 0 rest ≡ ran_out_lem
+  pub pay_broke : (n : ℕ) (rest : ℕ → Result M) → pay (suc n) 0 rest ≡ ran_out
   unfolding pay
   pay_broke n rest = refl
 
@@ -33,7 +33,7 @@ module _ {M : Type 0} where
   pay_within (suc n) zero rest h = absurd (not-suc-le-zero h)
   pay_within (suc n) (suc left) rest h = rw suc-sub-suc (pay_within n left rest (omega arith))
 
-  pub pay_beyond : (n budget : ℕ) (rest : ℕ → Result M) → budget < n → pay n budget rest ≡ ran_out_lem
+  pub pay_beyond : (n budget : ℕ) (rest : ℕ → Result M) → budget < n → pay n budget rest ≡ ran_out
   unfolding pay
   pay_beyond zero budget rest h = absurd (not-suc-le-zero h)
   pay_beyond (suc n) zero rest h = refl
@@ -72,7 +72,7 @@ module _ {M : Type 0} where
   same-verdict nothing (found q) budget left e = (cc, cc)
   same-verdict nothing nothing budget left e = (refl, cc)
 
-  not-ran-out : {A : Type 0} (o : Ending M) (left : ℕ) → verdict o left ≡ ran_out_lem → A
+  not-ran-out : {A : Type 0} (o : Ending M) (left : ℕ) → verdict o left ≡ ran_out → A
   not-ran-out (found p) left e = clash cc
   not-ran-out nothing left e = clash cc
 
@@ -82,13 +82,13 @@ module _ {M : Type 0} where
   paid (suc n) zero o x left e = not-ran-out x left (sym e)
   paid (suc n) (suc budget) o x left e = let same = paid n budget o x left e in (same.0, omega (arith, same.1))
 
-  pub unpaid : (n budget : ℕ) (o : Ending M) → pay n budget (verdict o) ≡ ran_out_lem → budget < n
+  pub unpaid : (n budget : ℕ) (o : Ending M) → pay n budget (verdict o) ≡ ran_out → budget < n
   unfolding pay
   unpaid zero budget o e = not-ran-out o budget e
   unpaid (suc n) zero o e = omega arith
   unpaid (suc n) (suc budget) o e = let h = unpaid n budget o e in omega arith
 
-  pub decided : (r : Result M) → r ≢ ran_out_lem → (o : Ending M) × (left : ℕ) × (r ≡ verdict o left)
+  pub decided : (r : Result M) → r ≢ ran_out → (o : Ending M) × (left : ℕ) × (r ≡ verdict o left)
   decided (way p left) h = (found p, left, refl)
   decided (no_way left) h = (nothing, left, refl)
-  decided ran_out_lem h = absurd (h refl)
+  decided ran_out h = absurd (h refl)

@@ -5,7 +5,7 @@ use mathlib.Core.Option.{Option, none, some}
 use mathlib.Core.List.{List, [], ◌∷◌, map}
 use Prim.Native.Nat.{ℕ, zero, suc}
 use Rattle.rules.specs.System.{◌∈◌, first, later}
-use Rattle.rules.specs.Machinery.Run.{Program, system, Result, way, no_way, ran_out_lem, put, after, search, one, row}
+use Rattle.rules.specs.Machinery.Run.{Program, system, Result, way, no_way, ran_out, put, after, search, one, row}
 use Rattle.rules.proofs.System.Simulation.{Simulation, renamed_result}
 use Rattle.rules.proofs.System.Steps.{search_zero, search_done, search_open, one_fails, one_enters, row_end, row_broke, row_step}
 
@@ -14,14 +14,14 @@ module _ {M N : Type 0} (f : M → N) where
   unfolding put
   renamed-put m (way p left) = refl
   renamed-put m (no_way left) = refl
-  renamed-put m ran_out_lem = refl
+  renamed-put m ran_out = refl
 
   renamed-after : (r : Result M) (rest : ℕ → Result M) (rest' : ℕ → Result N)
       → ((left : ℕ) → rest' left ≡ renamed_result f (rest left)) → after (renamed_result f r) rest' ≡ renamed_result f (after r rest)
   unfolding after
   renamed-after (way p left) rest rest' h = refl
   renamed-after (no_way left) rest rest' h = h left
-  renamed-after ran_out_lem rest rest' h = refl
+  renamed-after ran_out rest rest' h = refl
 
 module _ {P Q : Program} (σ : Simulation (system P) (system Q)) where
   open P use {State, Move, done, moves, next}

@@ -5,7 +5,7 @@ use mathlib.Core.Logic.{◌⊎◌, inl, inr}
 use mathlib.Core.List.{List, [], ◌∷◌, map}
 use Prim.Native.Nat.{ℕ}
 use Rattle.rules.specs.System.{System, Ending, found, nothing, ◌∈◌, first, later, Searched, Tried, arrived, looked, none_left, failed, finds, in_vain_is}
-use Rattle.rules.specs.Machinery.Run.{Result, way, no_way, ran_out_lem}
+use Rattle.rules.specs.Machinery.Run.{Result, way, no_way, ran_out}
 use Rattle.rules.proofs.System.Answers.{answer, answer-unique}
 use Rattle.rules.proofs.System.Ways.{Way, here, step, Determined, Bounded}
 use Rattle.rules.proofs.System.Induction.{Claim, claimed}
@@ -39,7 +39,7 @@ module _ {M N : Type 0} (f : M → N) where
   abbrev pub renamed_result : Result M → Result N
   renamed_result (way p left) = way (map f p) left
   renamed_result (no_way left) = no_way left
-  renamed_result ran_out_lem = ran_out_lem
+  renamed_result ran_out = ran_out
 
   map-in : {m : M} {ms : List M} → m ∈ ms → f m ∈ map f ms
   map-in first = first
@@ -47,8 +47,12 @@ module _ {M N : Type 0} (f : M → N) where
 
   in_map : {n : N} (ms : List M) → n ∈ map f ms → (m : M) × (m ∈ ms) × (f m ≡ n)
   in_map [] i = elim i [ ]
-  in_map (m ∷ ms) first = (m, first, refl)
-  in_map (m ∷ ms) (later i) = let x = in_map ms i in (x.0, later x.1, x.2)
+  in_map {n} (m ∷ ms) i = at i refl (λ d j. in_map ms (subst (λ (ks : List N). n ∈ ks) d j)) refl
+    where
+      at : {k : N} {ks : List N} → n ∈ (k ∷ ks) → k ≡ f m → (ks ≡ map f ms → n ∈ ks → (x : M) × (x ∈ ms) × (f x ≡ n)) → ks ≡ map f ms
+          → (x : M) × (x ∈ (m ∷ ms)) × (f x ≡ n)
+      at first e rest d = (m, first, sym e)
+      at (later j) e rest d = let x = rest d j in (x.0, later x.1, x.2)
 
 -- a renaming that changes nothing
 module _ {M : Type 0} (f : M → M) (same : (m : M) → f m ≡ m) where
@@ -63,7 +67,7 @@ module _ {M : Type 0} (f : M → M) (same : (m : M) → f m ≡ m) where
   pub renamed_result_same : (r : Result M) → renamed_result f r ≡ r
   renamed_result_same (way p left) = ap (λ (q : List M). way q left) (map_same p)
   renamed_result_same (no_way left) = refl
-  renamed_result_same ran_out_lem = refl
+  renamed_result_same ran_out = refl
 
 module _ {S T : System} (ε : Embedding S T) where
   open ε use {Alike, rename, same_done, has_move, same_next}

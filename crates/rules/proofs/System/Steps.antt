@@ -5,12 +5,12 @@ use mathlib.Core.Option.{none, some}
 use mathlib.Core.List.{List, [], ◌∷◌}
 use Prim.Native.Nat.{ℕ, suc, ◌-◌, ◌<◌}
 use native.Mathlib.Omega.{arith}
-use Rattle.rules.specs.Machinery.Run.{Program, Result, way, no_way, ran_out_lem, put, after, spend, enter, in_turn, visit, search, one, row}
+use Rattle.rules.specs.Machinery.Run.{Program, Result, way, no_way, ran_out, put, after, spend, enter, in_turn, visit, search, one, row}
 
 module _ (P : Program) where
   open P use {State, Move, done, moves, next}
 
-  pub search_zero : (budget : ℕ) (s : State) → search P 0 budget s ≡ ran_out_lem
+  pub search_zero : (budget : ℕ) (s : State) → search P 0 budget s ≡ ran_out
   unfolding search
   search_zero budget s = refl
 
@@ -34,7 +34,7 @@ module _ (P : Program) where
   unfolding row in_turn
   row_end depth budget s = refl
 
-  pub row_broke : (depth : ℕ) (s : State) (m : Move) (ms : List Move) → row P depth 0 s (m ∷ ms) ≡ ran_out_lem
+  pub row_broke : (depth : ℕ) (s : State) (m : Move) (ms : List Move) → row P depth 0 s (m ∷ ms) ≡ ran_out
   unfolding row in_turn spend
   row_broke depth s m ms = refl
 
@@ -56,12 +56,12 @@ module _ (P : Program) (depth budget : ℕ) where
     unfolding put
     one_no_way left f = one_enters P depth budget s m t e ∙ ap (put m) f
 
-    pub one_ran_out : search P depth budget t ≡ ran_out_lem → one P depth budget s m ≡ ran_out_lem
+    pub one_ran_out : search P depth budget t ≡ ran_out → one P depth budget s m ≡ ran_out
     unfolding put
     one_ran_out f = one_enters P depth budget s m t e ∙ ap (put m) f
 
   module _ (s : State) (m : Move) (ms : List Move) where
-    pub row_no_budget : budget ≡ 0 → row P depth budget s (m ∷ ms) ≡ ran_out_lem
+    pub row_no_budget : budget ≡ 0 → row P depth budget s (m ∷ ms) ≡ ran_out
     row_no_budget e = ap (λ (b : ℕ). row P depth b s (m ∷ ms)) e ∙ row_broke P depth s m ms
 
     -- one try taken from the budget
@@ -80,6 +80,6 @@ module _ (P : Program) (depth budget : ℕ) where
     unfolding after
     row_goes_on left h f = row_try h ∙ ap (λ (r : Result Move). after r (λ l. row P depth l s ms)) f
 
-    pub row_runs_out : 0 < budget → one P depth (budget - 1) s m ≡ ran_out_lem → row P depth budget s (m ∷ ms) ≡ ran_out_lem
+    pub row_runs_out : 0 < budget → one P depth (budget - 1) s m ≡ ran_out → row P depth budget s (m ∷ ms) ≡ ran_out
     unfolding after
     row_runs_out h f = row_try h ∙ ap (λ (r : Result Move). after r (λ l. row P depth l s ms)) f

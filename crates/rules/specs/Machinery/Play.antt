@@ -13,7 +13,7 @@ use Rattle.rules.specs.Tableau.{Leaf, Tableau, start, stepped}
 use Rattle.rules.specs.Order.{all_closed, candidates}
 use Rattle.rules.specs.Answer.{disjuncts, answer_words}
 use Rattle.rules.specs.Verdict.{Refusal, malformed, not_allowed, not_unified, leaves_open, CheckVerdict, accepted, refused, SearchVerdict, finds, finds_none, runs_out}
-use Rattle.rules.specs.Machinery.Run.{Program, Result, way, no_way, ran_out_lem, search}
+use Rattle.rules.specs.Machinery.Run.{Program, Result, way, no_way, ran_out, search}
 
 pub record Play : Type 0 where
   pub tableau : Tableau
@@ -23,13 +23,13 @@ unfoldable pub begin : Table → Play
 begin t = record { tableau = start t; bindings = [] }
 
 pub data Performed : Type 0 where
-  goes_on_lem : Play → Performed
+  goes_on : Play → Performed
   not_possible : Performed
   clashes : Performed
   circular : Performed
 
 unfoldable pub bound_by : Tableau → Unified → Performed
-bound_by y (made bs) = goes_on_lem (record { tableau = y; bindings = bs })
+bound_by y (made bs) = goes_on (record { tableau = y; bindings = bs })
 bound_by y clash = clashes
 bound_by y circle = circular
 
@@ -48,7 +48,7 @@ closes_pair Malformed = true
 unfoldable pub performed : Bindings → Option Tableau → Bool → Performed
 performed bs none closes = not_possible
 performed bs (some y) true = newest bs y y.pairs
-performed bs (some y) false = goes_on_lem (record { tableau = y; bindings = bs })
+performed bs (some y) false = goes_on (record { tableau = y; bindings = bs })
 
 unfoldable pub perform : Setting → Play → Step → Performed
 perform S p s = performed p.bindings (stepped S p.tableau s) (closes_pair s)
@@ -69,7 +69,7 @@ refusal Restart = not_allowed
 refusal Malformed = malformed
 
 unfoldable pub onwards : Performed → Step → ℕ → (Play → Checking) → Checking
-onwards (goes_on_lem p) s place next = next p
+onwards (goes_on p) s place next = next p
 onwards not_possible s place next = stopped (refusal s) place
 onwards clashes s place next = stopped (not_unified a_clash) place
 onwards circular s place next = stopped (not_unified a_circle) place
@@ -87,7 +87,7 @@ checked (stopped r place) = refused r place
 
 -- the search
 unfoldable pub afterwards : Performed → Option Play
-afterwards (goes_on_lem p) = some p
+afterwards (goes_on p) = some p
 afterwards not_possible = none
 afterwards clashes = none
 afterwards circular = none
@@ -120,7 +120,7 @@ steps_left S x = length x.leaves + most_more S * (S.bound - x.extensions)
 unfoldable pub reported : ℕ → Result Step → SearchVerdict
 reported budget (way steps left) = finds steps (budget - left)
 reported budget (no_way left) = finds_none (budget - left)
-reported budget ran_out_lem = runs_out budget
+reported budget ran_out = runs_out budget
 
 unfoldable pub search_for : Setting → ℕ → SearchVerdict
 search_for S budget = reported budget (search (plays S) (suc (steps_left S (start S.table))) budget (begin S.table))

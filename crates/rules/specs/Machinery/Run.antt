@@ -27,7 +27,7 @@ system P =
 pub data Result (M : Type 0) : Type 0 where
   way : List M → ℕ → Result M
   no_way : ℕ → Result M
-  ran_out_lem : Result M
+  ran_out : Result M
 
 module _ {M : Type 0} where
   -- an outcome with the tries left
@@ -39,17 +39,17 @@ module _ {M : Type 0} where
   unfoldable pub put : M → Result M → Result M
   put m (way p left) = way (m ∷ p) left
   put m (no_way left) = no_way left
-  put m ran_out_lem = ran_out_lem
+  put m ran_out = ran_out
 
   -- where there is no way, go on with the tries left
   unfoldable pub after : Result M → (ℕ → Result M) → Result M
   after (way p left) rest = way p left
   after (no_way left) rest = rest left
-  after ran_out_lem rest = ran_out_lem
+  after ran_out rest = ran_out
 
   -- one try from the budget
   unfoldable pub spend : ℕ → (ℕ → Result M) → Result M
-  spend zero rest = ran_out_lem
+  spend zero rest = ran_out
   spend (suc left) rest = rest left
 
 module _ (P : Program) where
@@ -72,7 +72,7 @@ module _ (P : Program) where
 
   -- The search from a state to a depth with a budget.
   unfoldable pub search : ℕ → ℕ → State → Result Move
-  search zero budget s = ran_out_lem
+  search zero budget s = ran_out
   search (suc depth) budget s = visit (search depth) (done s) budget s
 
   -- One move tried, its try already paid; and a row of moves tried in turn.

@@ -4,7 +4,7 @@ use Rattle.answering.proofs.tell.ended.Tie as tie
 use Rattle.answering.proofs.tell.ended.Reads as reads
 use Rattle.answering.proofs.tell.ended.Lts as lts
 use Rattle.assistant.proofs.result.none.Reads as none_reads
-use Rattle.assistant.proofs.result.ran_out_lem.Reads as ran-out-reads
+use Rattle.assistant.proofs.result.ran_out.Reads as ran-out-reads
 use Rattle.assistant.proofs.result.szs.Reads as szs-reads
 use Rattle.assistant.proofs.result.too_long.Reads as too-long-reads
 use Rattle.answering.proofs.Telling.{end_laws}
