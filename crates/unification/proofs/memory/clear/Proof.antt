@@ -9,10 +9,10 @@ use Prim.Native.Nat.{ℕ, ◌+◌, ◌-◌, ◌≤◌, ◌<◌}
 use Rattle.unification.proofs.memory.clear.Statement.{statement}
 use Rattle.unification.proofs.memory.clear.Tie as tie
 
-abbrev invariant-loop : tie.invariant-loop
+abbrev invariant-loop : tie.invariant-loop-i
 invariant-loop work₀ from count i₀ work i = (i ≤ count) × (work ≡ paste work₀ from (replicate count 0) i)
 
-abbrev decreases-loop : tie.decreases-loop
+abbrev decreases-loop : tie.decreases-loop-i
 decreases-loop work₀ from count i₀ work i = count - i
 
 pasted_length : (d : List ℕ) (from count i : ℕ) {m : List ℕ} → from + count ≤ length d → i ≤ count → m ≡ paste d from (replicate count 0) i → length m ≡ length d
@@ -41,9 +41,9 @@ clear_spec =
     (λ c. (omega arith, paste-zero c.args.work.now c.args.from (replicate c.args.count 0)))
     (λ c. omega arith)
     (λ c. omega arith)
-    (λ c. omega (arith, pasted_length c.before.before.args.work.now c.before.before.args.from c.before.before.args.count c.before.loop.i c.before.before.requires c.before.loop.invariant.0 c.before.loop.invariant.1))
+    (λ c. omega (arith, pasted_length c.args.work.now c.args.from c.args.count c.loop-i.i c.requires c.loop-i.invariant.0 c.loop-i.invariant.1))
     (λ c. omega arith)
     (λ c. omega arith)
-    (λ c. (omega arith, more c.before.before.args.work.now c.before.before.args.from c.before.before.args.count c.before.loop.i c.before.before.requires c.loop-test.true c.before.loop.invariant.1))
-    (λ c. pasted_length c.before.before.args.work.now c.before.before.args.from c.before.before.args.count c.before.loop.i c.before.before.requires c.before.loop.invariant.0 c.before.loop.invariant.1)
-    (λ c. done c.before.before.args.work.now c.before.before.args.from c.before.before.args.count c.before.loop.i c.before.loop.invariant.0 c.loop-test.false c.before.loop.invariant.1))
+    (λ c. (omega arith, more c.args.work.now c.args.from c.args.count c.loop-i.i c.requires c.loop-i-test.true c.loop-i.invariant.1))
+    (λ c. pasted_length c.args.work.now c.args.from c.args.count c.loop-i.i c.requires c.loop-i.invariant.0 c.loop-i.invariant.1)
+    (λ c. done c.args.work.now c.args.from c.args.count c.loop-i.i c.loop-i.invariant.0 c.loop-i-test.false c.loop-i.invariant.1))

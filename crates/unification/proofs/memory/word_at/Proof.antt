@@ -5,10 +5,10 @@ use Rattle.unification.proofs.memory.word_at.Tie as tie
 position-requires : tie.Need-position-requires
 position-requires c κs = search rules
 
-mul-result : tie.Need-overflow-mul-result
+mul-result : tie.Need-offset_bounds-file-position
 mul-result c = search rules
 
-shared-slice-read-result : tie.Need-shared-slice-read-result
+shared-slice-read-result : tie.Need-bounds-file-position
 shared-slice-read-result c = search rules
 
 returns : tie.Need-returns

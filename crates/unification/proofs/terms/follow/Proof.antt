@@ -8,24 +8,24 @@ use Rattle.unification.proofs.Follow.{Following, follow_begin, follow_inside, fo
 use Rattle.unification.proofs.terms.follow.Statement.{statement}
 use Rattle.unification.proofs.terms.follow.Tie as tie
 
-abbrev invariant-loop : tie.invariant-loop
+abbrev invariant-loop : tie.invariant-loop-reference
 invariant-loop file work reference at₀ at = Following file work reference at
 
-abbrev decreases-loop : tie.decreases-loop
+abbrev decreases-loop : tie.decreases-loop-reference
 decreases-loop file work reference at₀ at = rank_of (bindings_in file work) (term_of file work at)
 
 met : (c : tie.After-wide invariant-loop decreases-loop)
-    → (let a = c.before.before.before.before.before.before.before.before.args in
-    AtVariable a.file.now a.work.now a.reference c.before.before.before.before.before.loop.at c.wide.result)
+    → (let a = c.args in
+    AtVariable a.file.now a.work.now a.reference c.loop-reference.at c.wide.result)
 met c =
-    let s = c.before.before.before.before.before in
+    let s = c in
     follow_variable
-    s.before.before.before.requires.0
-    s.loop.invariant
-    c.before.before.before.before.word_at.ensures
-    c.before.before.before.kind.ensures
-    c.before.before.if1.false
-    (c.wide.ensures ∙ c.before.variable-at.ensures)
+    s.requires.0
+    s.loop-reference.invariant
+    c.word_at-word.ensures
+    c.kind.ensures
+    c.if-kind-ne0.false
+    (c.wide.ensures ∙ c.variable_at.ensures)
 
 pub follow_spec : {M : Type 1} → statement M
 follow_spec =
@@ -33,16 +33,16 @@ follow_spec =
     (tie.spec
     invariant-loop
     decreases-loop
-    (λ c. follow_begin c.before.before.requires.1)
-    (λ c κs. follow_inside c.before.before.before.requires.0 c.loop.invariant)
+    (λ c. follow_begin c.requires.1)
+    (λ c κs. follow_inside c.requires.0 c.loop-reference.invariant)
     (λ c κs. search rules)
-    (λ c. follow_function c.before.before.before.before.before.before.requires.0 c.before.before.before.loop.invariant c.before.before.word_at.ensures c.before.kind.ensures c.if1.true)
+    (λ c. follow_function c.requires.0 c.loop-reference.invariant c.word_at-word.ensures c.kind.ensures c.if-kind-ne0.true)
     (λ c κs. search rules)
     (λ c κs. search rules)
     (λ c. omega (arith, (met c).small))
     (λ c. omega (arith, (met c).small))
-    (λ c. omega (arith, (met c.before).small, c.before.before.before.before.before.before.before.before.before.requires.0.size))
-    (λ c. follow_free c.before.before.before.before.before.before.before.before.before.before.requires.0 (met c.before.before) c.if2.true)
-    (λ c. follow_positive c.before.before.before.before.before.before.before.before.before.before.requires.0 (met c.before.before) c.if2.false)
-    (λ c. follow_falls c.before.before.before.before.before.before.before.before.before.before.requires.0 (met c.before.before) c.if2.false)
-    (λ c. follow_on c.before.before.before.before.before.before.before.before.before.before.requires.0 (met c.before.before) c.if2.false))
+    (λ c. omega (arith, (met c.before).small, c.requires.0.size))
+    (λ c. follow_free c.requires.0 (met c.before.before) c.if-bound-eq0.true)
+    (λ c. follow_positive c.requires.0 (met c.before.before) c.if-bound-eq0.false)
+    (λ c. follow_falls c.requires.0 (met c.before.before) c.if-bound-eq0.false)
+    (λ c. follow_on c.requires.0 (met c.before.before) c.if-bound-eq0.false))

@@ -2,8 +2,6 @@
 use borrow.Author.Rules.{rules}
 use borrow.Fn.Kinds.{In}
 use borrow.Fn.PlainCycle.{Measures, is, falls, and}
-use denote.Enum.Declared.{tag_of, declared}
-use mathlib.Core.Logic.{◌⊎◌, inl, inr}
 use mathlib.Core.Path.{◌≡◌, refl, sym, ◌∙◌}
 use native.Mathlib.Omega.{arith}
 use Prim.Native.Nat.{ℕ, ◌+◌, ◌*◌, ◌-◌, ◌<◌}
@@ -12,7 +10,6 @@ use Rattle.unification.specs.Places.{most_references}
 use Rattle.unification.specs.Good.{word_at}
 use Rattle.unification.specs.declared.unify.Meeting.{Meeting}
 use Rattle.unification.specs.declared.unify.Meeting.TheVariants.{Made, Clash, Circle}
-use Rattle.unification.specs.contracts.unify.Meeting.{enum}
 use Rattle.unification.proofs.Walk.{inside, small}
 use Rattle.unification.proofs.Heft.{heft, heft_of}
 use Rattle.unification.proofs.Meet.{met_same, met_variable, right_binds, right_apart, met_right, left_binds, left_apart, met_left, met_clash, both_applied, met_falls, met_applied}
@@ -80,22 +77,21 @@ told_all t = (word_at.Asked, word_at.Learnt, same-function.Asked, same-function.
 abbrev told_applied : ℕ → meet-applied-lts.Claims
 told_applied t = (root.Asked, root.Learnt, spend.Asked, spend.Learnt, word_at.Asked, word_at.Learnt, arity.Asked, arity.Learnt, meet_all_below t, meet_all.Post, link.Asked, link.Learnt)
 
-abbrev Inv : meet-all-lts.invariant-loop
+abbrev Inv : meet-all-lts.invariant-loop-more
 Inv file work₀ notes₀ left right count l₀ r₀ more₀ work notes l r more = Going file work₀ notes₀ left right count work notes l r more
 
-abbrev μ : meet-all-lts.decreases-loop
+abbrev μ : meet-all-lts.decreases-loop-more
 μ file work₀ notes₀ left right count l₀ r₀ more₀ work notes l r more = most_references - l
 
 -- an outcome that is not the first is an end
-stops : (q : Meeting) → (tag_of (declared enum) q ≡ 1) ⊎ (tag_of (declared enum) q ≡ 2) → Stops q
+stops : (q : Meeting) → (q ≡ Made → ⊥) → Stops q
 unfolding Stops
-stops Made (inl e) = absurd (omega (arith, e))
-stops Made (inr e) = absurd (omega (arith, e))
-stops Clash e = tt
-stops Circle e = tt
+stops Made n = absurd (n refl)
+stops Clash n = tt
+stops Circle n = tt
 
-pub +meet-meet-all-meet-applied-spec : {M : Type 1} → statement M
-+meet-meet-all-meet-applied-spec =
+pub +meet_meet_all_meet_applied_spec : {M : Type 1} → statement M
++meet_meet_all_meet_applied_spec =
     close
     μ_meet
     μ_meet_all
@@ -104,89 +100,89 @@ pub +meet-meet-all-meet-applied-spec : {M : Type 1} → statement M
     (told t)
     (meet_at t)
     meet.Post
-    (λ c κs. (c.before.before.before.before.requires.1.0, c.before.before.before.before.requires.1.2))
-    (λ c κs. (c.before.before.before.before.before.before.requires.1.0, c.before.before.before.before.before.before.requires.1.3))
+    (λ c κs. (c.requires.1.0, c.requires.1.2))
+    (λ c κs. (c.requires.1.0, c.requires.1.3))
     (λ c. search rules)
-    (λ c. met_same c.before.before.before.before.before.before.before.before.requires.1.0 c.before.before.before.before.before.before.before.before.requires.1.1 c.before.before.before.follow.ensures c.before.follow2.ensures c.if1.true)
-    (λ c κs. inside c.before.before.before.before.before.before.before.before.before.requires.1.0 c.before.before.before.before.follow.ensures.points)
-    (λ c κs. inside c.before.before.before.before.before.before.before.before.before.before.before.requires.1.0 c.before.before.before.before.follow2.ensures.points)
+    (λ c. met_same c.requires.1.0 c.requires.1.1 c.follow-l.ensures c.follow-r.ensures c.if-l-r.true)
+    (λ c κs. inside c.requires.1.0 c.follow-l.ensures.points)
+    (λ c κs. inside c.requires.1.0 c.follow-r.ensures.points)
     (λ c κs. search rules)
     (λ c κs. search rules)
     (λ c κs. search rules)
     (λ c. search rules)
-    (λ c. met_variable c.before.before.before.before.before.before.before.before.before.before.before.before.before.before.before.before.before.requires.1.0 c.before.before.before.before.before.before.before.before.before.before.before.before.before.before.before.before.before.requires.1.1 c.before.before.before.before.before.before.before.before.before.before.before.before.follow.ensures c.before.before.before.before.before.before.before.before.before.before.follow2.ensures c.before.before.before.before.before.before.before.word_at.ensures c.before.before.before.before.before.word-at2.ensures c.before.before.before.before.kind.ensures c.before.before.before.if2.true c.before.before.variable-at.ensures c.before.same-variable.ensures c.if3.true)
-    (λ c κs. (c.before.before.before.before.before.before.before.before.before.before.before.before.before.before.before.before.before.before.before.requires.1.0, c.before.before.before.before.before.before.before.before.before.before.before.before.before.before.before.before.before.before.before.requires.1.1, right_binds c.before.before.before.before.before.before.before.before.before.before.before.before.before.before.before.before.before.before.before.requires.1.0 c.before.before.before.before.before.before.before.before.before.before.before.before.before.before.before.before.before.before.before.requires.1.1 c.before.before.before.before.before.before.before.before.before.before.before.before.before.before.follow.ensures c.before.before.before.before.before.before.before.before.before.before.before.before.follow2.ensures c.before.before.before.before.before.before.before.before.before.word_at.ensures c.before.before.before.before.before.before.before.word-at2.ensures c.before.before.before.before.before.before.kind.ensures c.before.before.before.before.before.if2.true c.before.before.before.before.variable-at.ensures c.before.before.before.same-variable.ensures c.before.before.if3.false, right_apart c.before.before.before.before.before.before.before.before.before.before.before.before.before.before.before.before.before.before.before.requires.1.0 c.before.before.before.before.before.before.before.before.before.before.before.before.before.before.before.before.before.before.before.requires.1.1 c.before.before.before.before.before.before.before.before.before.before.before.before.before.before.follow.ensures c.before.before.before.before.before.before.before.before.before.before.before.before.follow2.ensures c.before.before.before.before.before.before.before.before.before.word_at.ensures c.before.before.before.before.before.before.before.word-at2.ensures c.before.before.before.before.before.before.kind.ensures c.before.before.before.before.before.if2.true c.before.before.before.before.variable-at.ensures c.before.before.before.same-variable.ensures c.before.before.if3.false))
+    (λ c. met_variable c.requires.1.0 c.requires.1.1 c.follow-l.ensures c.follow-r.ensures c.word_at-v.ensures c.word_at-w.ensures c.kind.ensures c.if-kind-eq0.true c.variable_at-y.ensures c.same_variable.ensures c.if-same_variable.true)
+    (λ c κs. (c.requires.1.0, c.requires.1.1, right_binds c.requires.1.0 c.requires.1.1 c.follow-l.ensures c.follow-r.ensures c.word_at-v.ensures c.word_at-w.ensures c.kind.ensures c.if-kind-eq0.true c.variable_at-y.ensures c.same_variable.ensures c.if-same_variable.false, right_apart c.requires.1.0 c.requires.1.1 c.follow-l.ensures c.follow-r.ensures c.word_at-v.ensures c.word_at-w.ensures c.kind.ensures c.if-kind-eq0.true c.variable_at-y.ensures c.same_variable.ensures c.if-same_variable.false))
     (λ c. search rules)
     (λ c. search rules)
-    (λ c. met_right c.before.before.before.before.before.before.before.before.before.before.before.before.before.before.before.before.before.before.before.before.before.before.before.before.requires.1.0 c.before.before.before.before.before.before.before.before.before.before.before.before.before.before.before.before.before.before.before.before.before.before.before.before.requires.1.1 c.before.before.before.before.before.before.before.before.before.before.before.before.before.before.before.before.before.before.before.follow.ensures c.before.before.before.before.before.before.before.before.before.before.before.before.before.before.before.before.before.follow2.ensures c.before.before.before.before.before.before.before.before.before.before.before.before.before.before.word_at.ensures c.before.before.before.before.before.before.before.before.before.before.before.before.word-at2.ensures c.before.before.before.before.before.before.before.before.before.before.before.kind.ensures c.before.before.before.before.before.before.before.before.before.before.if2.true c.before.before.before.before.before.before.before.before.before.variable-at.ensures c.before.before.before.before.before.before.before.before.same-variable.ensures c.before.before.before.before.before.before.before.if3.false c.before.before.before.before.bind.ensures)
+    (λ c. met_right c.requires.1.0 c.requires.1.1 c.follow-l.ensures c.follow-r.ensures c.word_at-v.ensures c.word_at-w.ensures c.kind.ensures c.if-kind-eq0.true c.variable_at-y.ensures c.same_variable.ensures c.if-same_variable.false c.bind.ensures)
     (λ c κs. search rules)
     (λ c κs. search rules)
-    (λ c κs. (c.before.before.before.before.before.before.before.before.before.before.before.before.before.before.before.before.before.before.before.requires.1.0, c.before.before.before.before.before.before.before.before.before.before.before.before.before.before.before.before.before.before.before.requires.1.1, left_binds c.before.before.before.before.before.before.before.before.before.before.before.before.before.before.before.before.before.before.before.requires.1.0 c.before.before.before.before.before.before.before.before.before.before.before.before.before.before.before.before.before.before.before.requires.1.1 c.before.before.before.before.before.before.before.before.before.before.before.before.before.before.follow.ensures c.before.before.before.before.before.before.before.before.before.before.before.before.follow2.ensures c.before.before.before.before.before.before.before.before.before.word_at.ensures c.before.before.before.before.before.before.before.word-at2.ensures c.before.before.before.before.before.before.kind.ensures c.before.before.before.before.before.if2.false c.before.before.before.before.kind2.ensures c.before.before.before.if4.true c.variable-at2.ensures, left_apart c.before.before.before.before.before.before.before.before.before.before.before.before.before.before.before.before.before.before.before.requires.1.0 c.before.before.before.before.before.before.before.before.before.before.before.before.before.before.before.before.before.before.before.requires.1.1 c.before.before.before.before.before.before.before.before.before.before.before.before.before.before.follow.ensures c.before.before.before.before.before.before.before.before.before.before.before.before.follow2.ensures c.before.before.before.before.before.before.before.before.before.word_at.ensures c.before.before.before.before.before.before.before.word-at2.ensures c.before.before.before.before.before.before.kind.ensures c.before.before.before.before.before.if2.false c.before.before.before.before.kind2.ensures c.before.before.before.if4.true c.variable-at2.ensures))
+    (λ c κs. (c.requires.1.0, c.requires.1.1, left_binds c.requires.1.0 c.requires.1.1 c.follow-l.ensures c.follow-r.ensures c.word_at-v.ensures c.word_at-w.ensures c.kind.ensures c.if-kind-eq0.false c.kind-2.ensures c.if-kind-eq0-2.true c.variable_at.ensures, left_apart c.requires.1.0 c.requires.1.1 c.follow-l.ensures c.follow-r.ensures c.word_at-v.ensures c.word_at-w.ensures c.kind.ensures c.if-kind-eq0.false c.kind-2.ensures c.if-kind-eq0-2.true c.variable_at.ensures))
     (λ c. search rules)
     (λ c. search rules)
-    (λ c. met_left c.before.before.before.before.before.before.before.before.before.before.before.before.before.before.before.before.before.before.before.before.before.before.before.before.requires.1.0 c.before.before.before.before.before.before.before.before.before.before.before.before.before.before.before.before.before.before.before.before.before.before.before.before.requires.1.1 c.before.before.before.before.before.before.before.before.before.before.before.before.before.before.before.before.before.before.before.follow.ensures c.before.before.before.before.before.before.before.before.before.before.before.before.before.before.before.before.before.follow2.ensures c.before.before.before.before.before.before.before.before.before.before.before.before.before.before.word_at.ensures c.before.before.before.before.before.before.before.before.before.before.before.before.word-at2.ensures c.before.before.before.before.before.before.before.before.before.before.before.kind.ensures c.before.before.before.before.before.before.before.before.before.before.if2.false c.before.before.before.before.before.before.before.before.before.kind2.ensures c.before.before.before.before.before.before.before.before.if4.true c.before.before.before.before.before.variable-at2.ensures c.before.before.before.before.bind2.ensures)
+    (λ c. met_left c.requires.1.0 c.requires.1.1 c.follow-l.ensures c.follow-r.ensures c.word_at-v.ensures c.word_at-w.ensures c.kind.ensures c.if-kind-eq0.false c.kind-2.ensures c.if-kind-eq0-2.true c.variable_at.ensures c.bind-then-kind-eq0-2.ensures)
     (λ c. search rules)
-    (λ c. met_clash c.before.before.before.before.before.before.before.before.before.before.before.before.before.before.before.before.before.requires.1.0 c.before.before.before.before.before.before.before.before.before.before.before.before.before.before.before.before.before.requires.1.1 c.before.before.before.before.before.before.before.before.before.before.before.before.follow.ensures c.before.before.before.before.before.before.before.before.before.before.follow2.ensures c.before.before.before.before.before.before.before.word_at.ensures c.before.before.before.before.before.word-at2.ensures c.before.before.before.before.kind.ensures c.before.before.before.if2.false c.before.before.kind2.ensures c.before.if4.false c.before.before.before.before.before.before.before.word_at.type-inv c.before.before.before.before.before.word-at2.type-inv c.if5.true)
-    (λ c κs. (omega (arith, met_falls c.before.before.before.before.before.before.before.before.before.before.before.before.before.before.before.before.before.before.before.requires.1.0 c.before.before.before.before.before.before.before.before.before.before.before.before.before.before.before.before.before.before.before.requires.1.1 c.before.before.before.before.before.before.before.before.before.before.before.before.before.before.follow.ensures c.before.before.before.before.before.before.before.before.before.before.before.before.follow2.ensures c.before.before.before.before.before.before.before.before.before.word_at.ensures c.before.before.before.before.before.before.before.word-at2.ensures c.before.before.before.before.before.before.kind.ensures c.before.before.before.before.before.if2.false c.before.before.before.before.kind2.ensures c.before.before.before.if4.false c.before.before.if5.false, c.before.before.before.before.before.before.before.before.before.before.before.before.before.before.before.before.before.before.before.requires.0), (c.before.before.before.before.before.before.before.before.before.before.before.before.before.before.before.before.before.before.before.requires.1.0, c.before.before.before.before.before.before.before.before.before.before.before.before.before.before.before.before.before.before.before.requires.1.1, both_applied c.before.before.before.before.before.before.before.before.before.before.before.before.before.before.before.before.before.before.before.requires.1.0 c.before.before.before.before.before.before.before.before.before.before.before.before.before.before.before.before.before.before.before.requires.1.1 c.before.before.before.before.before.before.before.before.before.before.before.before.before.before.follow.ensures c.before.before.before.before.before.before.before.before.before.before.before.before.follow2.ensures c.before.before.before.before.before.before.before.before.before.word_at.ensures c.before.before.before.before.before.before.before.word-at2.ensures c.before.before.before.before.before.before.kind.ensures c.before.before.before.before.before.if2.false c.before.before.before.before.kind2.ensures c.before.before.before.if4.false c.before.before.if5.false)))
+    (λ c. met_clash c.requires.1.0 c.requires.1.1 c.follow-l.ensures c.follow-r.ensures c.word_at-v.ensures c.word_at-w.ensures c.kind.ensures c.if-kind-eq0.false c.kind-2.ensures c.if-kind-eq0-2.false c.word_at-v.type_inv c.word_at-w.type_inv c.if-v-w.true)
+    (λ c κs. (omega (arith, met_falls c.requires.1.0 c.requires.1.1 c.follow-l.ensures c.follow-r.ensures c.word_at-v.ensures c.word_at-w.ensures c.kind.ensures c.if-kind-eq0.false c.kind-2.ensures c.if-kind-eq0-2.false c.if-v-w.false, c.requires.0), (c.requires.1.0, c.requires.1.1, both_applied c.requires.1.0 c.requires.1.1 c.follow-l.ensures c.follow-r.ensures c.word_at-v.ensures c.word_at-w.ensures c.kind.ensures c.if-kind-eq0.false c.kind-2.ensures c.if-kind-eq0-2.false c.if-v-w.false)))
     (λ c. search rules)
     (λ c. search rules)
-    (λ c. met_applied c.before.before.before.before.before.before.before.before.before.before.before.before.before.before.before.before.before.before.before.before.before.before.before.before.requires.1.0 c.before.before.before.before.before.before.before.before.before.before.before.before.before.before.before.before.before.before.before.before.before.before.before.before.requires.1.1 c.before.before.before.before.before.before.before.before.before.before.before.before.before.before.before.before.before.before.before.follow.ensures c.before.before.before.before.before.before.before.before.before.before.before.before.before.before.before.before.before.follow2.ensures c.before.before.before.before.before.before.before.before.before.before.before.before.before.before.word_at.ensures c.before.before.before.before.before.before.before.before.before.before.before.before.word-at2.ensures c.before.before.before.before.before.before.before.before.before.before.before.kind.ensures c.before.before.before.before.before.before.before.before.before.before.if2.false c.before.before.before.before.before.before.before.before.before.kind2.ensures c.before.before.before.before.before.before.before.before.if4.false c.before.before.before.before.before.before.before.if5.false c.before.before.before.before.meet_applied_lem.ensures))
+    (λ c. met_applied c.requires.1.0 c.requires.1.1 c.follow-l.ensures c.follow-r.ensures c.word_at-v.ensures c.word_at-w.ensures c.kind.ensures c.if-kind-eq0.false c.kind-2.ensures c.if-kind-eq0-2.false c.if-v-w.false c.meet_applied.ensures))
     (λ t. meet-all-lts.spec
     (told_all t)
     (meet_all_at t)
     meet_all.Post
     Inv
     μ
-    (λ c. let s = c.before.before.before in all_start s.requires.1.0 s.requires.1.1 s.requires.1.2 s.requires.1.3)
-    (λ c κs. all_left_inside c.before.before.loop.invariant c.before.loop-test.true)
-    (λ c κs. all_right_inside c.before.before.before.before.loop.invariant c.before.before.before.loop-test.true)
+    (λ c. let s = c in all_start s.requires.1.0 s.requires.1.1 s.requires.1.2 s.requires.1.3)
+    (λ c κs. all_left_inside c.loop-more.invariant c.loop-more-test.true)
+    (λ c κs. all_right_inside c.loop-more.invariant c.loop-more-test.true)
     (λ c κs. search rules)
-    (λ c κs. (omega (arith, c.before.before.before.before.before.before.loop-test.true), all_few c.before.before.before.before.before.before.before.loop.invariant c.before.before.before.before.before.before.loop-test.true))
-    (λ c. omega (arith, all_left_small c.before.before.before.before.before.before.before.before.loop.invariant c.before.before.before.before.before.before.before.loop-test.true))
-    (λ c. omega (arith, all_right_small c.before.before.before.before.before.before.before.before.loop.invariant c.before.before.before.before.before.before.before.loop-test.true))
-    (λ c. omega (arith, all_left_small c.before.before.before.before.before.before.before.before.loop.invariant c.before.before.before.before.before.before.before.loop-test.true))
-    (λ c. let same = c.before.before.same-function.ensures c.before.if1.true in all_in_place c.before.before.before.before.before.before.before.before.loop.invariant c.before.before.before.before.before.before.before.loop-test.true c.before.before.before.before.before.word_at.ensures c.before.before.before.word-at2.ensures same.0 same.1 c.owed-after.ensures)
-    (λ c κs. let i = c.before.before.before.before.before.before.before.before.before.loop.invariant in let l = c.before.before.before.before.before.before.before.before.loop-test.true in (omega (arith, all_falls i l, c.before.before.before.before.before.before.before.before.before.before.before.before.before.requires.0), (i.grown.good, i.quiet, all_left i l, all_right i l)))
+    (λ c κs. (omega (arith, c.loop-more-test.true), all_few c.loop-more.invariant c.loop-more-test.true))
+    (λ c. omega (arith, all_left_small c.loop-more.invariant c.loop-more-test.true))
+    (λ c. omega (arith, all_right_small c.loop-more.invariant c.loop-more-test.true))
+    (λ c. omega (arith, all_left_small c.loop-more.invariant c.loop-more-test.true))
+    (λ c. let same = c.same_function.ensures c.if-same_function.true in all_in_place c.loop-more.invariant c.loop-more-test.true c.word_at-word.ensures c.word_at.ensures same.0 same.1 c.owed_after-more.ensures)
+    (λ c κs. let i = c.loop-more.invariant in let l = c.loop-more-test.true in (omega (arith, all_falls i l, c.requires.0), (i.grown.good, i.quiet, all_left i l, all_right i l)))
     (λ c. search rules)
-    (λ c. c.before.before.before.before.before.meet.auto.1.0 ∙ c.before.before.before.before.before.before.before.before.before.before.before.before.before.before.before.loop.invariant.grown.good.size ∙ sym c.before.before.before.before.before.before.before.before.before.before.before.before.before.before.before.before.before.before.before.requires.1.0.size)
-    (λ c. c.before.before.before.before.before.meet.auto.1.1.0 ∙ c.before.before.before.before.before.before.before.before.before.before.before.before.before.before.before.loop.invariant.noting.size)
-    (λ c. all_stops c.before.before.before.before.before.before.before.before.before.before.before.before.before.before.before.loop.invariant c.before.before.before.before.before.before.before.before.before.before.before.before.before.before.loop-test.true c.before.before.before.before.before.meet.ensures (stops c.before.before.before.before.before.meet.result c.match.keys2))
+    (λ c. c.meet-met.auto.work ∙ c.loop-more.invariant.grown.good.size ∙ sym c.requires.1.0.size)
+    (λ c. c.meet-met.auto.notes ∙ c.loop-more.invariant.noting.size)
+    (λ c. all_stops c.loop-more.invariant c.loop-more-test.true c.meet-met.ensures (stops c.meet-met.result c.in_default.not-Made))
     (λ c. omega arith)
-    (λ c. c.before.before.before.before.before.before.before.meet.auto.1.0 ∙ c.before.before.before.before.before.before.before.before.before.before.before.before.before.before.before.before.before.loop.invariant.grown.good.size ∙ sym c.before.before.before.before.before.before.before.before.before.before.before.before.before.before.before.before.before.before.before.before.before.requires.1.0.size)
-    (λ c. c.before.before.before.before.before.before.before.meet.auto.1.1.0 ∙ c.before.before.before.before.before.before.before.before.before.before.before.before.before.before.before.before.before.loop.invariant.noting.size)
-    (λ c. all_last c.before.before.before.before.before.before.before.before.before.before.before.before.before.before.before.before.before.loop.invariant c.before.before.before.before.before.before.before.before.before.before.before.before.before.before.before.before.loop-test.true c.before.before.before.before.before.before.before.meet.ensures c.before.enum_told.given.1 c.if2.true)
-    (λ c κs. (c.before.before.before.before.before.before.before.before.meet.ensures.grown.good, all_left_still c.before.before.before.before.before.before.before.before.before.before.before.before.before.before.before.before.before.before.loop.invariant c.before.before.before.before.before.before.before.before.before.before.before.before.before.before.before.before.before.loop-test.true c.before.before.before.before.before.before.before.before.meet.ensures c.before.before.enum_told.given.1))
-    (λ c κs. (c.before.before.before.before.before.before.before.before.before.before.meet.ensures.grown.good, all_right_still c.before.before.before.before.before.before.before.before.before.before.before.before.before.before.before.before.before.before.before.before.loop.invariant c.before.before.before.before.before.before.before.before.before.before.before.before.before.before.before.before.before.before.before.loop-test.true c.before.before.before.before.before.before.before.before.before.before.meet.ensures c.before.before.before.before.enum_told.given.1))
-    (λ c. omega (arith, all_left_small c.before.before.before.before.before.before.before.before.before.before.before.before.before.before.before.before.before.before.before.before.before.loop.invariant c.before.before.before.before.before.before.before.before.before.before.before.before.before.before.before.before.before.before.before.before.loop-test.true, c.before.before.after.ensures.later))
-    (λ c. all_on c.before.before.before.before.before.before.before.before.before.before.before.before.before.before.before.before.before.before.before.before.before.loop.invariant c.before.before.before.before.before.before.before.before.before.before.before.before.before.before.before.before.before.before.before.before.loop-test.true c.before.before.before.before.before.before.before.before.before.before.before.meet.ensures c.before.before.before.before.before.enum_told.given.1 c.before.before.before.before.if2.false c.before.before.after.ensures c.after2.ensures)
-    (λ c. c.before.loop.invariant.grown.good.size ∙ sym c.before.before.before.before.before.requires.1.0.size)
-    (λ c. c.before.loop.invariant.noting.size)
-    (λ c. all_none c.before.loop.invariant c.loop-test.false))
+    (λ c. c.meet-met.auto.work ∙ c.loop-more.invariant.grown.good.size ∙ sym c.requires.1.0.size)
+    (λ c. c.meet-met.auto.notes ∙ c.loop-more.invariant.noting.size)
+    (λ c. all_last c.loop-more.invariant c.loop-more-test.true c.meet-met.ensures c.in-Made.is c.if-more-eq0.true)
+    (λ c κs. (c.meet-met.ensures.grown.good, all_left_still c.loop-more.invariant c.loop-more-test.true c.meet-met.ensures c.in-Made.is))
+    (λ c κs. (c.meet-met.ensures.grown.good, all_right_still c.loop-more.invariant c.loop-more-test.true c.meet-met.ensures c.in-Made.is))
+    (λ c. omega (arith, all_left_small c.loop-more.invariant c.loop-more-test.true, c.after-l.ensures.later))
+    (λ c. all_on c.loop-more.invariant c.loop-more-test.true c.meet-met.ensures c.in-Made.is c.if-more-eq0.false c.after-l.ensures c.after-r.ensures)
+    (λ c. c.loop-more.invariant.grown.good.size ∙ sym c.requires.1.0.size)
+    (λ c. c.loop-more.invariant.noting.size)
+    (λ c. all_none c.loop-more.invariant c.loop-more-test.false))
     (λ t. meet-applied-lts.spec
     (told_applied t)
     (meet_applied_at t)
     meet_applied_lem.Post
-    (λ c κs. let s = c.before.before.before.before in (applied_left s.requires.1.0 s.requires.1.1 s.requires.1.2, s.requires.1.1.down))
-    (λ c κs. let s = c.before.before.before.before.before.before in (applied_right s.requires.1.0 s.requires.1.1 s.requires.1.2, s.requires.1.1.down))
+    (λ c κs. let s = c in (applied_left s.requires.1.0 s.requires.1.1 s.requires.1.2, s.requires.1.1.down))
+    (λ c κs. let s = c in (applied_right s.requires.1.0 s.requires.1.1 s.requires.1.2, s.requires.1.1.down))
     (λ c. search rules)
-    (λ c. applied_known c.before.before.before.before.before.before.before.before.requires.1.0 c.before.before.before.before.before.before.before.before.requires.1.1 c.before.before.before.before.before.before.before.before.requires.1.2 c.before.before.before.root.ensures c.before.root2.ensures c.if1.true)
-    (λ c κs. c.before.before.before.before.before.before.before.before.before.requires.1.1.awake)
+    (λ c. applied_known c.requires.1.0 c.requires.1.1 c.requires.1.2 c.root-l.ensures c.root-r.ensures c.if-l-r.true)
+    (λ c κs. c.requires.1.1.awake)
     (λ c. search rules)
-    (λ c. applied_tired c.before.before.before.before.before.before.before.before.before.before.before.before.before.requires.1.0 c.before.before.before.before.before.before.before.before.before.before.before.before.before.requires.1.1 c.before.before.before.before.before.before.before.before.before.before.before.before.before.requires.1.2 c.before.before.before.before.before.before.before.before.root.ensures c.before.before.before.before.before.before.root2.ensures c.before.before.before.spend.ensures c.if2.true)
-    (λ c κs. c.before.before.before.before.before.before.before.before.before.before.before.before.before.before.requires.1.2.arguments.inside)
+    (λ c. applied_tired c.requires.1.0 c.requires.1.1 c.requires.1.2 c.root-l.ensures c.root-r.ensures c.spend.ensures c.if-spend.true)
+    (λ c κs. c.requires.1.2.arguments.inside)
     (λ c κs. search rules)
-    (λ c. omega (arith, applied_left c.before.before.before.before.before.before.before.before.before.before.before.before.before.before.before.before.before.before.requires.1.0 c.before.before.before.before.before.before.before.before.before.before.before.before.before.before.before.before.before.before.requires.1.1 c.before.before.before.before.before.before.before.before.before.before.before.before.before.before.before.before.before.before.requires.1.2))
-    (λ c. omega (arith, applied_right c.before.before.before.before.before.before.before.before.before.before.before.before.before.before.before.before.before.before.requires.1.0 c.before.before.before.before.before.before.before.before.before.before.before.before.before.before.before.before.before.before.requires.1.1 c.before.before.before.before.before.before.before.before.before.before.before.before.before.before.before.before.before.before.requires.1.2))
-    (λ c κs. (omega (arith, applied_falls c.before.before.before.before.before.before.before.before.before.before.before.before.before.before.before.before.before.before.requires.1.0 c.before.before.before.before.before.before.before.before.before.before.before.before.before.before.before.before.before.before.requires.1.1 c.before.before.before.before.before.before.before.before.before.before.before.before.before.before.before.before.before.before.requires.1.2 c.before.before.before.word_at.ensures c.before.before.arity.ensures, c.before.before.before.before.before.before.before.before.before.before.before.before.before.before.before.before.before.before.requires.0), (c.before.before.before.before.before.before.before.before.before.before.before.before.before.before.before.before.before.before.requires.1.0, applied_quiet c.before.before.before.before.before.before.before.before.before.before.before.before.before.before.before.before.before.before.requires.1.0 c.before.before.before.before.before.before.before.before.before.before.before.before.before.before.before.before.before.before.requires.1.1 c.before.before.before.before.before.before.before.before.before.before.before.before.before.before.before.before.before.before.requires.1.2 c.before.before.before.before.before.before.before.before.before.before.before.before.before.root.ensures c.before.before.before.before.before.before.before.before.before.before.before.root2.ensures c.before.before.before.before.before.before.before.before.spend.ensures c.before.before.before.before.before.if2.false, applied_lefts c.before.before.before.before.before.before.before.before.before.before.before.before.before.before.before.before.before.before.requires.1.0 c.before.before.before.before.before.before.before.before.before.before.before.before.before.before.before.before.before.before.requires.1.1 c.before.before.before.before.before.before.before.before.before.before.before.before.before.before.before.before.before.before.requires.1.2 c.before.before.before.word_at.ensures c.before.before.arity.ensures, applied_rights c.before.before.before.before.before.before.before.before.before.before.before.before.before.before.before.before.before.before.requires.1.0 c.before.before.before.before.before.before.before.before.before.before.before.before.before.before.before.before.before.before.requires.1.1 c.before.before.before.before.before.before.before.before.before.before.before.before.before.before.before.before.before.before.requires.1.2 c.before.before.before.word_at.ensures c.before.before.arity.ensures)))
+    (λ c. omega (arith, applied_left c.requires.1.0 c.requires.1.1 c.requires.1.2))
+    (λ c. omega (arith, applied_right c.requires.1.0 c.requires.1.1 c.requires.1.2))
+    (λ c κs. (omega (arith, applied_falls c.requires.1.0 c.requires.1.1 c.requires.1.2 c.word_at.ensures c.arity-count.ensures, c.requires.0), (c.requires.1.0, applied_quiet c.requires.1.0 c.requires.1.1 c.requires.1.2 c.root-l.ensures c.root-r.ensures c.spend.ensures c.if-spend.false, applied_lefts c.requires.1.0 c.requires.1.1 c.requires.1.2 c.word_at.ensures c.arity-count.ensures, applied_rights c.requires.1.0 c.requires.1.1 c.requires.1.2 c.word_at.ensures c.arity-count.ensures)))
     (λ c. search rules)
     (λ c. search rules)
-    (λ c. c.before.before.before.before.before.meet_all.auto.1.1.0 ∙ c.before.before.before.before.before.before.before.before.before.before.before.before.before.before.spend.auto.0)
-    (λ c. applied_met c.before.before.before.before.before.before.before.before.before.before.before.before.before.before.before.before.before.before.before.before.before.before.before.before.requires.1.0 c.before.before.before.before.before.before.before.before.before.before.before.before.before.before.before.before.before.before.before.before.before.before.before.before.requires.1.1 c.before.before.before.before.before.before.before.before.before.before.before.before.before.before.before.before.before.before.before.before.before.before.before.before.requires.1.2 c.before.before.before.before.before.before.before.before.before.before.before.before.before.before.before.before.before.before.before.root.ensures c.before.before.before.before.before.before.before.before.before.before.before.before.before.before.before.before.before.root2.ensures c.before.before.before.before.before.before.before.before.before.before.before.before.before.before.spend.ensures c.before.before.before.before.before.before.before.before.before.word_at.ensures c.before.before.before.before.before.before.before.before.arity.ensures c.before.before.before.before.before.meet_all.ensures)
-    (λ c κs. (omega (arith, applied_right c.before.before.before.before.before.before.before.before.before.before.before.before.before.before.before.before.before.before.before.before.before.before.before.before.before.before.before.requires.1.0 c.before.before.before.before.before.before.before.before.before.before.before.before.before.before.before.before.before.before.before.before.before.before.before.before.before.before.before.requires.1.1 c.before.before.before.before.before.before.before.before.before.before.before.before.before.before.before.before.before.before.before.before.before.before.before.before.before.before.before.requires.1.2, c.before.before.before.before.before.before.before.before.before.before.before.before.before.before.before.before.before.before.before.before.root2.ensures.low), c.before.if3.true))
+    (λ c. c.meet_all-met.auto.notes ∙ c.spend.auto.notes)
+    (λ c. applied_met c.requires.1.0 c.requires.1.1 c.requires.1.2 c.root-l.ensures c.root-r.ensures c.spend.ensures c.word_at.ensures c.arity-count.ensures c.meet_all-met.ensures)
+    (λ c κs. (omega (arith, applied_right c.requires.1.0 c.requires.1.1 c.requires.1.2, c.root-r.ensures.low), c.if-l-r-2.true))
     (λ c. search rules)
-    (λ c. c.before.before.link.auto.0 ∙ c.before.before.before.before.before.before.before.before.before.before.before.meet_all.auto.1.1.0 ∙ c.before.before.before.before.before.before.before.before.before.before.before.before.before.before.before.before.before.before.before.before.spend.auto.0)
-    (λ c. applied_up c.before.before.before.before.before.before.before.before.before.before.before.before.before.before.before.before.before.before.before.before.before.before.before.before.before.before.before.before.before.before.requires.1.0 c.before.before.before.before.before.before.before.before.before.before.before.before.before.before.before.before.before.before.before.before.before.before.before.before.before.before.before.before.before.before.requires.1.1 c.before.before.before.before.before.before.before.before.before.before.before.before.before.before.before.before.before.before.before.before.before.before.before.before.before.before.before.before.before.before.requires.1.2 c.before.before.before.before.before.before.before.before.before.before.before.before.before.before.before.before.before.before.before.before.before.before.before.before.before.root.ensures c.before.before.before.before.before.before.before.before.before.before.before.before.before.before.before.before.before.before.before.before.before.before.before.root2.ensures c.before.before.before.before.before.before.before.before.before.before.before.before.before.before.before.before.before.before.before.before.spend.ensures c.before.before.before.before.before.before.before.before.before.before.before.before.before.before.before.word_at.ensures c.before.before.before.before.before.before.before.before.before.before.before.before.before.before.arity.ensures c.before.before.before.before.before.before.before.before.before.before.before.meet_all.ensures c.before.before.before.before.before.enum_told.given.1 c.before.before.before.before.if3.true c.before.before.link.ensures)
-    (λ c κs. (omega (arith, applied_left c.before.before.before.before.before.before.before.before.before.before.before.before.before.before.before.before.before.before.before.before.before.before.before.before.before.before.before.requires.1.0 c.before.before.before.before.before.before.before.before.before.before.before.before.before.before.before.before.before.before.before.before.before.before.before.before.before.before.before.requires.1.1 c.before.before.before.before.before.before.before.before.before.before.before.before.before.before.before.before.before.before.before.before.before.before.before.before.before.before.before.requires.1.2, c.before.before.before.before.before.before.before.before.before.before.before.before.before.before.before.before.before.before.before.before.before.before.root.ensures.low), omega (arith, c.before.if3.false, c.before.before.before.before.before.before.before.before.before.before.before.before.before.before.before.before.before.before.before.if1.false)))
+    (λ c. c.link.auto.notes ∙ c.meet_all-met.auto.notes ∙ c.spend.auto.notes)
+    (λ c. applied_up c.requires.1.0 c.requires.1.1 c.requires.1.2 c.root-l.ensures c.root-r.ensures c.spend.ensures c.word_at.ensures c.arity-count.ensures c.meet_all-met.ensures c.in-Made.is c.if-l-r-2.true c.link.ensures)
+    (λ c κs. (omega (arith, applied_left c.requires.1.0 c.requires.1.1 c.requires.1.2, c.root-l.ensures.low), omega (arith, c.if-l-r-2.false, c.if-l-r.false)))
     (λ c. search rules)
-    (λ c. c.before.before.link2.auto.0 ∙ c.before.before.before.before.before.before.before.before.before.before.before.meet_all.auto.1.1.0 ∙ c.before.before.before.before.before.before.before.before.before.before.before.before.before.before.before.before.before.before.before.before.spend.auto.0)
-    (λ c. applied_down c.before.before.before.before.before.before.before.before.before.before.before.before.before.before.before.before.before.before.before.before.before.before.before.before.before.before.before.before.before.before.requires.1.0 c.before.before.before.before.before.before.before.before.before.before.before.before.before.before.before.before.before.before.before.before.before.before.before.before.before.before.before.before.before.before.requires.1.1 c.before.before.before.before.before.before.before.before.before.before.before.before.before.before.before.before.before.before.before.before.before.before.before.before.before.before.before.before.before.before.requires.1.2 c.before.before.before.before.before.before.before.before.before.before.before.before.before.before.before.before.before.before.before.before.before.before.before.before.before.root.ensures c.before.before.before.before.before.before.before.before.before.before.before.before.before.before.before.before.before.before.before.before.before.before.before.root2.ensures c.before.before.before.before.before.before.before.before.before.before.before.before.before.before.before.before.before.before.before.before.spend.ensures c.before.before.before.before.before.before.before.before.before.before.before.before.before.before.before.word_at.ensures c.before.before.before.before.before.before.before.before.before.before.before.before.before.before.arity.ensures c.before.before.before.before.before.before.before.before.before.before.before.meet_all.ensures c.before.before.before.before.before.enum_told.given.1 c.before.before.before.before.before.before.before.before.before.before.before.before.before.before.before.before.before.before.before.before.before.before.if1.false c.before.before.before.before.if3.false c.before.before.link2.ensures))
+    (λ c. c.link-2.auto.notes ∙ c.meet_all-met.auto.notes ∙ c.spend.auto.notes)
+    (λ c. applied_down c.requires.1.0 c.requires.1.1 c.requires.1.2 c.root-l.ensures c.root-r.ensures c.spend.ensures c.word_at.ensures c.arity-count.ensures c.meet_all-met.ensures c.in-Made.is c.if-l-r.false c.if-l-r-2.false c.link-2.ensures))

@@ -29,25 +29,25 @@ below t = and 2 kinds.ps (falls 2 kinds.ps ◌<◌ μ t) own.Pre
 abbrev told : ℕ → lts.Claims
 told t = (undo.Asked, undo.Learnt, word_at.Asked, word_at.Learnt, arity.Asked, arity.Learnt, meet_all.Asked, meet_all.Learnt, below t, own.Post)
 
-pub +meet-thoroughly-spec : {M : Type 1} → statement M
-+meet-thoroughly-spec =
+pub +meet_thoroughly_spec : {M : Type 1} → statement M
++meet_thoroughly_spec =
     close
     μ
     (λ t. lts.spec
     (told t)
     (at t)
     own.Post
-    (λ c κs. let s = c.before.before.before in let b = s.requires.1.1 in ((s.args.file.now, b.grown.good), omega (arith, b.count, b.grown.more)))
+    (λ c κs. let s = c in let b = s.requires.1.1 in ((s.args.file.now, b.grown.good), omega (arith, b.count, b.grown.more)))
     (λ c. search rules)
-    (λ c κs. (let b = c.before.before.before.before.before.before.before.requires.1.1 in again_arguments b (c.before.before.before.undo.ensures _ b.grown.good)).inside)
+    (λ c κs. (let b = c.requires.1.1 in again_arguments b (c.undo.ensures _ b.grown.good)).inside)
     (λ c κs. search rules)
     (λ c. search rules)
-    (λ c. let b = c.before.before.before.before.before.before.before.before.before.before.before.requires.1.1 in omega (arith, b.alike.left.made, b.good.copies))
-    (λ c. let b = c.before.before.before.before.before.before.before.before.before.before.before.requires.1.1 in omega (arith, b.alike.right.made, b.good.copies))
-    (λ c κs. let b = c.before.before.before.before.before.before.before.before.before.before.before.requires.1.1 in let u = c.before.before.before.before.before.before.before.undo.ensures _ b.grown.good in (u.good, full_quiet thorough_words (omega arith), again_lefts b u c.before.before.before.word_at.ensures c.before.before.arity.ensures, again_rights b u c.before.before.before.word_at.ensures c.before.before.arity.ensures))
+    (λ c. let b = c.requires.1.1 in omega (arith, b.alike.left.made, b.good.copies))
+    (λ c. let b = c.requires.1.1 in omega (arith, b.alike.right.made, b.good.copies))
+    (λ c κs. let b = c.requires.1.1 in let u = c.undo.ensures _ b.grown.good in (u.good, full_quiet thorough_words (omega arith), again_lefts b u c.word_at.ensures c.arity-count.ensures, again_rights b u c.word_at.ensures c.arity-count.ensures))
     (λ c. search rules)
-    (λ c κs. absurd (omega (arith, full_awake thorough_words (omega arith) c.before.before.before.before.before.meet_all.ensures, c.before.if1.true)))
-    (λ c. absurd (omega (arith, full_awake thorough_words (omega arith) c.before.before.before.before.before.before.before.before.meet_all.ensures, c.before.before.before.before.if1.true)))
-    (λ c. absurd (omega (arith, full_awake thorough_words (omega arith) c.before.before.before.before.before.before.before.before.meet_all.ensures, c.before.before.before.before.if1.true)))
-    (λ c. c.before.before.before.before.meet_all.auto.1.0 ∙ c.before.before.before.before.before.before.before.before.before.before.before.before.undo.auto.0)
-    (λ c m b. again_met b (c.before.before.before.before.before.before.before.before.before.before.before.before.undo.ensures _ b.grown.good) c.before.before.before.before.before.before.before.before.word_at.ensures c.before.before.before.before.before.before.before.arity.ensures (full_met thorough_words (omega arith) c.before.before.before.before.meet_all.ensures)))
+    (λ c κs. absurd (omega (arith, full_awake thorough_words (omega arith) c.meet_all-met.ensures, c.if-notes-eq0.true)))
+    (λ c. absurd (omega (arith, full_awake thorough_words (omega arith) c.meet_all-met.ensures, c.if-notes-eq0.true)))
+    (λ c. absurd (omega (arith, full_awake thorough_words (omega arith) c.meet_all-met.ensures, c.if-notes-eq0.true)))
+    (λ c. c.meet_all-met.auto.work ∙ c.undo.auto.work)
+    (λ c m b. again_met b (c.undo.ensures _ b.grown.good) c.word_at.ensures c.arity-count.ensures (full_met thorough_words (omega arith) c.meet_all-met.ensures)))

@@ -58,10 +58,10 @@ through_at t = and 3 through-kinds.ps (is 3 through-kinds.ps μ_through t) throu
 abbrev through_below : ℕ → In 3 through-kinds.ps
 through_below t = and 3 through-kinds.ps (falls 3 through-kinds.ps ◌<◌ μ_through t) through.Pre
 
-abbrev Inv : occurs-lts.invariant-loop
+abbrev Inv : occurs-lts.invariant-loop-owed
 Inv file work notes₀ variable reference at₀ owed₀ notes at owed = Seeking file work notes₀ variable reference notes at owed
 
-abbrev μ : occurs-lts.decreases-loop
+abbrev μ : occurs-lts.decreases-loop-owed
 μ file work notes₀ variable reference at₀ owed₀ notes at owed = most_references - at
 
 abbrev told : ℕ → occurs-lts.Claims
@@ -74,23 +74,23 @@ abbrev told_through : ℕ → through-lts.Claims
 told_through t = (marked.Asked, marked.Learnt, spend.Asked, spend.Learnt, follow.Asked, follow.Learnt, occurs_below t, occurs.Post, mark.Asked, mark.Learnt)
 
 met : (t : ℕ) (c : here-lts.After-wide (told_here t) (here_at t) here.Post)
-    → (let a = c.before.before.before.before.before.before.before.before.args in
-    Here a.file.now a.work.now a.variable a.at a.word c.before.before.variable-at.result)
+    → (let a = c.args in
+    Here a.file.now a.work.now a.variable a.at a.word c.variable_at-met.result)
 met t c =
-    let s = c.before.before.before.before.before.before.before.before in
+    let s = c in
     at_variable
     s.requires.1.0
     s.args.variable
     s.args.at
     s.args.word
-    c.before.before.before.before.kind.ensures
+    c.kind.ensures
     s.requires.1.2
     s.requires.1.3
-    c.before.before.before.if1.false
-    c.before.before.variable-at.ensures
+    c.if-kind-ne0.false
+    c.variable_at-met.ensures
 
-pub +occurs-occurs-at-occurs-through-spec : {M : Type 1} → statement M
-+occurs-occurs-at-occurs-through-spec =
+pub +occurs_occurs_at_occurs_through_spec : {M : Type 1} → statement M
++occurs_occurs_at_occurs_through_spec =
     close
     μ_occurs
     μ_here
@@ -101,52 +101,52 @@ pub +occurs-occurs-at-occurs-through-spec : {M : Type 1} → statement M
     occurs.Post
     Inv
     μ
-    (λ c. let s = c.before.before.before in seek_begin s.requires.1.0 s.requires.1.1 s.requires.1.2)
-    (λ c κs. look_inside c.before.before.before.before.before.requires.1.0 c.before.loop.invariant.looking c.loop-test.true)
-    (λ c κs. let s = c.before.before.before.before.before.before.before in let i = c.before.before.before.loop.invariant in
-    (omega (arith, look_falls s.requires.1.0 i.looking c.before.before.loop-test.true c.before.word_at.ensures, s.requires.0), (s.requires.1.0, i.checking, look_points s.requires.1.0 i.looking c.before.before.loop-test.true, c.before.word_at.ensures)))
-    (λ c. c.before.before.before.occurs_at_lem.auto.1.1.0 ∙ c.before.before.before.before.before.before.before.loop.invariant.noting.size)
-    (λ c. seek_found c.before.before.before.before.before.before.before.before.before.before.before.requires.1.0 c.before.before.before.before.before.before.before.loop.invariant c.before.before.before.before.before.before.loop-test.true c.before.before.before.before.before.word_at.ensures c.before.before.before.occurs_at_lem.ensures c.if1.true)
-    (λ c κs. (omega arith, look_few c.before.before.before.before.before.before.before.before.before.before.before.requires.1.0 c.before.before.before.before.before.before.before.loop.invariant.looking c.before.before.before.before.before.before.loop-test.true))
-    (λ c. omega (arith, look_small c.before.before.before.before.before.before.before.before.before.before.before.before.requires.1.0 c.before.before.before.before.before.before.before.before.loop.invariant.looking c.before.before.before.before.before.before.before.loop-test.true))
-    (λ c. omega (arith, look_small c.before.before.before.before.before.before.before.before.before.before.before.before.requires.1.0 c.before.before.before.before.before.before.before.before.loop.invariant.looking c.before.before.before.before.before.before.before.loop-test.true))
-    (λ c. seek_on c.before.before.before.before.before.before.before.before.before.before.before.before.requires.1.0 c.before.before.before.before.before.before.before.before.loop.invariant c.before.before.before.before.before.before.before.loop-test.true c.before.before.before.before.before.before.word_at.ensures c.before.before.before.before.occurs_at_lem.ensures c.before.if1.false c.owed-after.ensures)
-    (λ c. c.before.loop.invariant.noting.size)
-    (λ c. seek_done c.before.before.before.before.before.requires.1.0 c.before.loop.invariant c.loop-test.false))
+    (λ c. let s = c in seek_begin s.requires.1.0 s.requires.1.1 s.requires.1.2)
+    (λ c κs. look_inside c.requires.1.0 c.loop-owed.invariant.looking c.loop-owed-test.true)
+    (λ c κs. let s = c in let i = c.loop-owed.invariant in
+    (omega (arith, look_falls s.requires.1.0 i.looking c.loop-owed-test.true c.word_at-word.ensures, s.requires.0), (s.requires.1.0, i.checking, look_points s.requires.1.0 i.looking c.loop-owed-test.true, c.word_at-word.ensures)))
+    (λ c. c.occurs_at.auto.notes ∙ c.loop-owed.invariant.noting.size)
+    (λ c. seek_found c.requires.1.0 c.loop-owed.invariant c.loop-owed-test.true c.word_at-word.ensures c.occurs_at.ensures c.if-occurs_at.true)
+    (λ c κs. (omega arith, look_few c.requires.1.0 c.loop-owed.invariant.looking c.loop-owed-test.true))
+    (λ c. omega (arith, look_small c.requires.1.0 c.loop-owed.invariant.looking c.loop-owed-test.true))
+    (λ c. omega (arith, look_small c.requires.1.0 c.loop-owed.invariant.looking c.loop-owed-test.true))
+    (λ c. seek_on c.requires.1.0 c.loop-owed.invariant c.loop-owed-test.true c.word_at-word.ensures c.occurs_at.ensures c.if-occurs_at.false c.owed_after-owed.ensures)
+    (λ c. c.loop-owed.invariant.noting.size)
+    (λ c. seek_done c.requires.1.0 c.loop-owed.invariant c.loop-owed-test.false))
     (λ t. here-lts.spec
     (told_here t)
     (here_at t)
     here.Post
     (λ c κs. search rules)
-    (λ c. let s = c.before.before.before.before.before in looked_still s.requires.1.1 (at_function s.requires.1.0 _ _ _ c.before.kind.ensures c.if1.true))
+    (λ c. let s = c in looked_still s.requires.1.1 (at_function s.requires.1.0 _ _ _ c.kind.ensures c.if-kind-ne0.true))
     (λ c κs. search rules)
-    (λ c. let s = c.before.before.before.before.before.before.before in
-    looked_still s.requires.1.1 (at_same s.requires.1.0 (at_variable s.requires.1.0 s.args.variable s.args.at s.args.word c.before.before.before.kind.ensures s.requires.1.2 s.requires.1.3 c.before.before.if1.false c.before.variable-at.ensures) s.requires.1.1.free c.if2.true))
+    (λ c. let s = c in
+    looked_still s.requires.1.1 (at_same s.requires.1.0 (at_variable s.requires.1.0 s.args.variable s.args.at s.args.word c.kind.ensures s.requires.1.2 s.requires.1.3 c.if-kind-ne0.false c.variable_at-met.ensures) s.requires.1.1.free c.if-met-variable.true))
     (λ c κs. search rules)
     (λ c. omega (arith, (met t c).small, c.wide.ensures))
     (λ c. omega (arith, (met t c).small, c.wide.ensures))
-    (λ c. omega (arith, (met t c.before).small, c.before.wide.ensures, c.before.before.before.before.before.before.before.before.before.requires.1.0.size))
-    (λ c. looked_still c.before.before.before.before.before.before.before.before.before.before.requires.1.1 (at_free c.before.before.before.before.before.before.before.before.before.before.requires.1.0 (met t c.before.before) c.before.before.wide.ensures c.before.before.before.if2.false c.if3.true))
+    (λ c. omega (arith, (met t c.before).small, c.wide.ensures, c.requires.1.0.size))
+    (λ c. looked_still c.requires.1.1 (at_free c.requires.1.0 (met t c.before.before) c.wide.ensures c.if-met-variable.false c.if-bound-eq0.true))
     (λ c. omega arith)
-    (λ c κs. let s = c.before.before.before.before.before.before.before.before.before.before.before in
-    (omega (arith, at_falls s.requires.1.0 (met t c.before.before.before) c.before.before.before.wide.ensures c.before.if3.false, s.requires.0), (s.requires.1.0, s.requires.1.1, at_valued s.requires.1.0 (met t c.before.before.before) c.before.before.before.wide.ensures c.before.if3.false)))
+    (λ c κs. let s = c in
+    (omega (arith, at_falls s.requires.1.0 (met t c.before.before.before) c.wide.ensures c.if-bound-eq0.false, s.requires.0), (s.requires.1.0, s.requires.1.1, at_valued s.requires.1.0 (met t c.before.before.before) c.wide.ensures c.if-bound-eq0.false)))
     (λ c. search rules)
-    (λ c. looked_as (at_on c.before.before.before.before.before.before.before.before.before.before.before.before.before.before.requires.1.0 (met t c.before.before.before.before.before.before) c.before.before.before.before.before.before.wide.ensures c.before.before.before.before.if3.false) c.before.before.occurs-through.ensures))
+    (λ c. looked_as (at_on c.requires.1.0 (met t c.before.before.before.before.before.before) c.wide.ensures c.if-bound-eq0.false) c.occurs_through.ensures))
     (λ t. through-lts.spec
     (told_through t)
     (through_at t)
     through.Post
-    (λ c κs. let s = c.before.before.before.before in (s.requires.1.2.small, s.requires.1.1.small))
+    (λ c κs. let s = c in (s.requires.1.2.small, s.requires.1.1.small))
     (λ c. search rules)
-    (λ c. let s = c.before.before.before.before.before.before in through_marked s.requires.1.1 s.requires.1.2 c.before.marked.ensures c.if1.true)
-    (λ c κs. c.before.before.before.before.before.before.before.requires.1.1.notes.awake)
+    (λ c. let s = c in through_marked s.requires.1.1 s.requires.1.2 c.marked.ensures c.if-marked.true)
+    (λ c κs. c.requires.1.1.notes.awake)
     (λ c. search rules)
-    (λ c. let s = c.before.before.before.before.before.before.before.before.before.before.before in through_tired s.requires.1.1 s.requires.1.2 c.before.before.before.spend.ensures c.if2.true)
-    (λ c κs. let s = c.before.before.before.before.before.before.before.before.before.before.before in (s.requires.1.0, s.requires.1.2.points))
-    (λ c κs. let s = c.before.before.before.before.before.before.before.before.before.before.before.before.before in
-    (omega (arith, end_falls s.requires.1.0 c.before.follow.ensures, s.requires.0), (s.requires.1.0, through_checking s.requires.1.1 s.requires.1.2 c.before.before.before.before.before.spend.ensures c.before.before.if2.false, c.before.follow.ensures.points)))
-    (λ c. c.before.before.before.occurs.auto.1.1.0 ∙ c.before.before.before.before.before.before.before.before.before.spend.auto.0)
-    (λ c. let s = c.before.before.before.before.before.before.before.before.before.before.before.before.before.before.before.before.before in looked_as (end_as s.requires.1.0 c.before.before.before.before.before.follow.ensures s.args.variable) (through_found s.requires.1.1 (end_valued s.requires.1.0 c.before.before.before.before.before.follow.ensures s.requires.1.2) c.before.before.before.before.before.before.before.before.before.spend.ensures c.before.before.before.occurs.ensures c.if3.true))
+    (λ c. let s = c in through_tired s.requires.1.1 s.requires.1.2 c.spend.ensures c.if-spend.true)
+    (λ c κs. let s = c in (s.requires.1.0, s.requires.1.2.points))
+    (λ c κs. let s = c in
+    (omega (arith, end_falls s.requires.1.0 c.follow-end.ensures, s.requires.0), (s.requires.1.0, through_checking s.requires.1.1 s.requires.1.2 c.spend.ensures c.if-spend.false, c.follow-end.ensures.points)))
+    (λ c. c.occurs.auto.notes ∙ c.spend.auto.notes)
+    (λ c. let s = c in looked_as (end_as s.requires.1.0 c.follow-end.ensures s.args.variable) (through_found s.requires.1.1 (end_valued s.requires.1.0 c.follow-end.ensures s.requires.1.2) c.spend.ensures c.occurs.ensures c.if-occurs.true))
     (λ c κs. search rules)
-    (λ c. c.before.before.mark.auto.0 ∙ c.before.before.before.before.before.before.before.occurs.auto.1.1.0 ∙ c.before.before.before.before.before.before.before.before.before.before.before.before.before.spend.auto.0)
-    (λ c. let s = c.before.before.before.before.before.before.before.before.before.before.before.before.before.before.before.before.before.before.before.before.before in looked_as (end_as s.requires.1.0 c.before.before.before.before.before.before.before.before.before.follow.ensures s.args.variable) (through_absent s.requires.1.1 (end_valued s.requires.1.0 c.before.before.before.before.before.before.before.before.before.follow.ensures s.requires.1.2) c.before.before.before.before.before.before.before.before.before.before.before.before.before.spend.ensures c.before.before.before.before.before.before.before.occurs.ensures c.before.before.before.before.if3.false c.before.before.mark.ensures)))
+    (λ c. c.mark.auto.notes ∙ c.occurs.auto.notes ∙ c.spend.auto.notes)
+    (λ c. let s = c in looked_as (end_as s.requires.1.0 c.follow-end.ensures s.args.variable) (through_absent s.requires.1.1 (end_valued s.requires.1.0 c.follow-end.ensures s.requires.1.2) c.spend.ensures c.occurs.ensures c.if-occurs.false c.mark.ensures)))

@@ -14,9 +14,9 @@ link_spec =
     (tie.spec
     (λ c κs. search rules)
     (λ c. search rules)
-    (λ c. sym (set_out c.before.before.before.args.notes.now _ _ (omega arith)))
+    (λ c. sym (set_out c.args.notes.now _ _ (omega arith)))
     (λ c. search rules)
     (λ c. search rules)
     (λ c. search rules)
     (λ c. search rules)
-    (λ c. rw c.before.wide.ensures))
+    (λ c. rw c.wide-at.ensures))

@@ -19,4 +19,4 @@ marked_spec =
     (λ c. search rules)
     (λ c. search rules)
     (λ c. search rules)
-    (λ c e. ap (λ (i : ℕ). get_or c.before.before.before.before.args.notes.now (mark_places + i) 0) (sym c.before.before.wide.ensures) ∙ eqb-true _ _ e))
+    (λ c e. ap (λ (i : ℕ). get_or c.args.notes.now (mark_places + i) 0) (sym c.wide-at.ensures) ∙ eqb-true _ _ e))

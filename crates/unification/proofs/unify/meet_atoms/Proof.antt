@@ -11,10 +11,10 @@ meet_atoms_spec =
     tie.close
     (tie.spec
     (λ c. search rules)
-    (λ c κs. atoms_inside c.before.before.before.before.requires.0 c.before.before.before.before.requires.1)
+    (λ c κs. atoms_inside c.requires.0 c.requires.1)
     (λ c κs. search rules)
-    (λ c. omega (arith, c.before.before.before.before.before.before.before.requires.1.left.made, c.before.before.before.before.before.before.before.requires.0.copies))
-    (λ c. omega (arith, c.before.before.before.before.before.before.before.requires.1.right.made, c.before.before.before.before.before.before.before.requires.0.copies))
-    (λ c κs. (c.before.before.before.before.before.before.before.args.work.now, all_remain c.before.before.before.before.before.before.before.requires.0 c.before.before.before.before.before.before.before.requires.1 c.before.before.word_at.ensures c.before.arity.ensures))
+    (λ c. omega (arith, c.requires.1.left.made, c.requires.0.copies))
+    (λ c. omega (arith, c.requires.1.right.made, c.requires.0.copies))
+    (λ c κs. (c.args.work.now, all_remain c.requires.0 c.requires.1 c.word_at.ensures c.arity-count.ensures))
     (λ c. search rules)
-    (λ c. c.before.before.meet-rest.ensures c.before.before.before.before.before.before.before.before.before.before.args.work.now (all_remain c.before.before.before.before.before.before.before.before.before.before.requires.0 c.before.before.before.before.before.before.before.before.before.before.requires.1 c.before.before.before.before.before.word_at.ensures c.before.before.before.before.arity.ensures)))
+    (λ c. c.meet_rest.ensures c.args.work.now (all_remain c.requires.0 c.requires.1 c.word_at.ensures c.arity-count.ensures)))

@@ -13,10 +13,10 @@ use Rattle.unification.proofs.Newest.{Joining, join_begin, join_remaining, join_
 use Rattle.unification.proofs.unify.meet_entered.Statement.{statement}
 use Rattle.unification.proofs.unify.meet_entered.Tie as tie
 
-abbrev Inv : tie.invariant-loop
+abbrev Inv : tie.invariant-loop-more
 Inv file work₀ leaf entered kept l₀ r₀ more₀ work l r more = Joining file work₀ leaf entered work l r more
 
-abbrev μ : tie.decreases-loop
+abbrev μ : tie.decreases-loop-more
 μ file work₀ leaf entered kept l₀ r₀ more₀ work l r more = most_references - l
 
 pub meet_entered_spec : {M : Type 1} → statement M
@@ -26,32 +26,32 @@ meet_entered_spec =
     Inv
     μ
     (λ c. search rules)
-    (λ c. omega (arith, c.before.before.before.requires.1.left.made, c.before.before.before.requires.0.copies))
-    (λ c. omega (arith, c.before.before.before.requires.1.right.made, c.before.before.before.requires.0.copies))
-    (λ c κs. atoms_inside c.before.before.before.before.requires.0 c.before.before.before.before.requires.1)
+    (λ c. omega (arith, c.requires.1.left.made, c.requires.0.copies))
+    (λ c. omega (arith, c.requires.1.right.made, c.requires.0.copies))
+    (λ c κs. atoms_inside c.requires.0 c.requires.1)
     (λ c κs. search rules)
-    (λ c. join_begin c.before.before.before.before.before.before.requires.0 c.before.before.before.before.before.before.requires.1 c.before.before.before.before.before.before.requires.2 c.before.word_at.ensures c.arity.ensures)
-    (λ c κs. all_left_inside c.before.before.loop.invariant.going c.before.loop-test.true)
-    (λ c κs. all_right_inside c.before.before.before.before.loop.invariant.going c.before.before.before.loop-test.true)
+    (λ c. join_begin c.requires.0 c.requires.1 c.requires.2 c.word_at.ensures c.arity-more.ensures)
+    (λ c κs. all_left_inside c.loop-more.invariant.going c.loop-more-test.true)
+    (λ c κs. all_right_inside c.loop-more.invariant.going c.loop-more-test.true)
     (λ c κs. search rules)
-    (λ c κs. (omega (arith, c.before.before.before.before.before.before.loop-test.true), all_few c.before.before.before.before.before.before.before.loop.invariant.going c.before.before.before.before.before.before.loop-test.true))
-    (λ c. omega (arith, all_left_small c.before.before.before.before.before.before.before.before.loop.invariant.going c.before.before.before.before.before.before.before.loop-test.true))
-    (λ c. omega (arith, all_right_small c.before.before.before.before.before.before.before.before.loop.invariant.going c.before.before.before.before.before.before.before.loop-test.true))
-    (λ c. omega (arith, all_left_small c.before.before.before.before.before.before.before.before.loop.invariant.going c.before.before.before.before.before.before.before.loop-test.true))
-    (λ c. let same = c.before.before.same-function.ensures c.before.if1.true in join_in_place c.before.before.before.before.before.before.before.before.loop.invariant c.before.before.before.before.before.before.before.loop-test.true c.before.before.before.before.before.word-at2.ensures c.before.before.before.word-at3.ensures same.0 same.1 c.owed-after.ensures)
-    (λ c κs. (c.before.before.before.before.before.before.before.before.loop.invariant.going.grown.good.size, λ k. join_small c.before.before.before.before.before.before.before.before.loop.invariant c.before.before.before.before.before.before.before.loop-test.true c.before.before.before.word-at3.ensures k))
-    (λ c κs. (c.before.before.before.before.before.before.before.before.before.before.before.before.before.before.before.before.before.before.args.work.now, join_remaining c.before.before.before.before.before.before.before.before.before.before.before.loop.invariant c.before.before.before.before.before.before.before.before.before.before.before.before.before.before.before.before.before.before.requires.0 c.before.before.before.before.before.before.before.before.before.before.before.before.before.before.before.before.before.before.requires.1))
-    (λ c. c.before.before.meet-rest.auto.1.0 ∙ c.before.before.before.before.before.before.before.before.before.before.before.before.before.before.loop.invariant.going.grown.good.size ∙ sym c.before.before.before.before.before.before.before.before.before.before.before.before.before.before.before.before.before.before.before.before.before.requires.0.size)
-    (λ c. c.before.before.meet-rest.ensures c.before.before.before.before.before.before.before.before.before.before.before.before.before.before.before.before.before.before.before.before.before.args.work.now (join_remaining c.before.before.before.before.before.before.before.before.before.before.before.before.before.before.loop.invariant c.before.before.before.before.before.before.before.before.before.before.before.before.before.before.before.before.before.before.before.before.before.requires.0 c.before.before.before.before.before.before.before.before.before.before.before.before.before.before.before.before.before.before.before.before.before.requires.1))
-    (λ c κs. (c.before.before.before.before.before.before.before.before.before.before.before.loop.invariant.going.grown.good, all_left c.before.before.before.before.before.before.before.before.before.before.before.loop.invariant.going c.before.before.before.before.before.before.before.before.before.before.loop-test.true))
+    (λ c κs. (omega (arith, c.loop-more-test.true), all_few c.loop-more.invariant.going c.loop-more-test.true))
+    (λ c. omega (arith, all_left_small c.loop-more.invariant.going c.loop-more-test.true))
+    (λ c. omega (arith, all_right_small c.loop-more.invariant.going c.loop-more-test.true))
+    (λ c. omega (arith, all_left_small c.loop-more.invariant.going c.loop-more-test.true))
+    (λ c. let same = c.same_function.ensures c.if-same_function.true in join_in_place c.loop-more.invariant c.loop-more-test.true c.word_at-word.ensures c.word_at-other.ensures same.0 same.1 c.owed_after-more.ensures)
+    (λ c κs. (c.loop-more.invariant.going.grown.good.size, λ k. join_small c.loop-more.invariant c.loop-more-test.true c.word_at-other.ensures k))
+    (λ c κs. (c.args.work.now, join_remaining c.loop-more.invariant c.requires.0 c.requires.1))
+    (λ c. c.meet_rest.auto.work ∙ c.loop-more.invariant.going.grown.good.size ∙ sym c.requires.0.size)
+    (λ c. c.meet_rest.ensures c.args.work.now (join_remaining c.loop-more.invariant c.requires.0 c.requires.1))
+    (λ c κs. (c.loop-more.invariant.going.grown.good, all_left c.loop-more.invariant.going c.loop-more-test.true))
     (λ c κs. search rules)
-    (λ c κs. let h = c.before.before.before.before.before.before.before.before.before.before.before.before.before.before.loop.invariant.going.grown.good in let b = join_binds c.before.before.before.before.before.before.before.before.before.before.before.before.before.before.loop.invariant c.before.before.before.before.before.before.before.before.before.before.before.before.before.loop-test.true c.before.before.before.before.before.before.before.before.before.word-at3.ensures (c.before.before.before.before.before.is_free_lem.ensures (not-false _ c.before.before.before.before.if2.false)) c.before.before.follow.ensures c.variable-at.ensures in (h.size, bind_room h b, bind_small h b, bind_reference h b))
+    (λ c κs. let h = c.loop-more.invariant.going.grown.good in let b = join_binds c.loop-more.invariant c.loop-more-test.true c.word_at-other.ensures (c.is_free.ensures c.if-not-is_free.false) c.follow-value.ensures c.variable_at.ensures in (h.size, bind_room h b, bind_small h b, bind_reference h b))
     (λ c. omega arith)
-    (λ c. c.before.before.before.push.auto.0 ∙ c.before.before.before.before.before.before.before.before.before.before.before.before.before.before.before.before.before.before.loop.invariant.going.grown.good.size ∙ sym c.before.before.before.before.before.before.before.before.before.before.before.before.before.before.before.before.before.before.before.before.before.before.before.before.before.requires.0.size)
-    (λ c. literal_met c.before.before.before.before.before.before.before.before.before.before.before.before.before.before.before.before.before.before.before.before.before.before.before.before.before.requires.0 c.before.before.before.before.before.before.before.before.before.before.before.before.before.before.before.before.before.before.before.before.before.before.before.before.before.requires.1 (brief_met (join_last c.before.before.before.before.before.before.before.before.before.before.before.before.before.before.before.before.before.before.loop.invariant c.before.before.before.before.before.before.before.before.before.before.before.before.before.before.before.before.before.loop-test.true c.before.before.before.before.before.before.before.before.before.before.before.before.before.word-at3.ensures (c.before.before.before.before.before.before.before.before.before.is_free_lem.ensures (not-false _ c.before.before.before.before.before.before.before.before.if2.false)) c.before.before.before.before.before.before.follow.ensures c.before.before.before.before.variable-at.ensures c.before.before.before.push.ensures c.if3.true) (λ e. omega arith)))
-    (λ c κs. join_still c.before.before.before.before.before.before.before.before.before.before.before.before.before.before.before.before.before.before.before.loop.invariant c.before.before.before.before.before.before.before.before.before.before.before.before.before.before.before.before.before.before.loop-test.true c.before.before.before.before.before.before.before.before.before.before.before.before.before.before.word-at3.ensures (c.before.before.before.before.before.before.before.before.before.before.is_free_lem.ensures (not-false _ c.before.before.before.before.before.before.before.before.before.if2.false)) c.before.before.before.before.before.before.before.follow.ensures c.before.before.before.before.before.variable-at.ensures c.before.before.before.before.push.ensures)
-    (λ c. omega (arith, all_right_small c.before.before.before.before.before.before.before.before.before.before.before.before.before.before.before.before.before.before.before.before.loop.invariant.going c.before.before.before.before.before.before.before.before.before.before.before.before.before.before.before.before.before.before.before.loop-test.true))
-    (λ c. omega (arith, all_left_small c.before.before.before.before.before.before.before.before.before.before.before.before.before.before.before.before.before.before.before.before.loop.invariant.going c.before.before.before.before.before.before.before.before.before.before.before.before.before.before.before.before.before.before.before.loop-test.true, c.after.ensures.later))
-    (λ c. join_on c.before.before.before.before.before.before.before.before.before.before.before.before.before.before.before.before.before.before.before.before.loop.invariant c.before.before.before.before.before.before.before.before.before.before.before.before.before.before.before.before.before.before.before.loop-test.true c.before.before.before.before.before.before.before.before.before.before.before.before.before.before.before.word-at3.ensures (c.before.before.before.before.before.before.before.before.before.before.before.is_free_lem.ensures (not-false _ c.before.before.before.before.before.before.before.before.before.before.if2.false)) c.before.before.before.before.before.before.before.before.follow.ensures c.before.before.before.before.before.before.variable-at.ensures c.before.before.before.before.before.push.ensures c.before.before.if3.false c.after.ensures)
-    (λ c. c.before.loop.invariant.going.grown.good.size ∙ sym c.before.before.before.before.before.before.before.before.requires.0.size)
-    (λ c. literal_met c.before.before.before.before.before.before.before.before.requires.0 c.before.before.before.before.before.before.before.before.requires.1 (brief_met (all_none c.before.loop.invariant.going c.loop-test.false) (λ e. omega arith))))
+    (λ c. c.push.auto.work ∙ c.loop-more.invariant.going.grown.good.size ∙ sym c.requires.0.size)
+    (λ c. literal_met c.requires.0 c.requires.1 (brief_met (join_last c.loop-more.invariant c.loop-more-test.true c.word_at-other.ensures (c.is_free.ensures c.if-not-is_free.false) c.follow-value.ensures c.variable_at.ensures c.push.ensures c.if-more-eq0.true) (λ e. omega arith)))
+    (λ c κs. join_still c.loop-more.invariant c.loop-more-test.true c.word_at-other.ensures (c.is_free.ensures c.if-not-is_free.false) c.follow-value.ensures c.variable_at.ensures c.push.ensures)
+    (λ c. omega (arith, all_right_small c.loop-more.invariant.going c.loop-more-test.true))
+    (λ c. omega (arith, all_left_small c.loop-more.invariant.going c.loop-more-test.true, c.after-l.ensures.later))
+    (λ c. join_on c.loop-more.invariant c.loop-more-test.true c.word_at-other.ensures (c.is_free.ensures c.if-not-is_free.false) c.follow-value.ensures c.variable_at.ensures c.push.ensures c.if-more-eq0.false c.after-l.ensures)
+    (λ c. c.loop-more.invariant.going.grown.good.size ∙ sym c.requires.0.size)
+    (λ c. literal_met c.requires.0 c.requires.1 (brief_met (all_none c.loop-more.invariant.going c.loop-more-test.false) (λ e. omega arith))))

@@ -11,10 +11,10 @@ meet_rest_spec =
     tie.close
     (tie.spec
     (λ c. search rules)
-    (λ c κs. let b = c.before.before.before.before.requires.1 in (b.began.grown.good, brief_quiet refl (omega arith), b.lefts, b.rights))
+    (λ c κs. let b = c.requires.1 in (b.began.grown.good, brief_quiet refl (omega arith), b.lefts, b.rights))
     (λ c. search rules)
     (λ c. search rules)
-    (λ c m b. remaining_met b (brief_met c.before.before.before.before.meet_all.ensures c.if1.true))
-    (λ c κs. (c.before.before.before.before.before.before.before.before.before.before.requires.0, remaining_began c.before.before.before.before.before.before.before.before.before.before.requires.1 c.before.before.before.before.before.meet_all.ensures.grown))
+    (λ c m b. remaining_met b (brief_met c.meet_all-met.ensures c.if-notes-ne0.true))
+    (λ c κs. (c.requires.0, remaining_began c.requires.1 c.meet_all-met.ensures.grown))
     (λ c. search rules)
-    (λ c m b. c.before.before.meet-thoroughly.ensures m (remaining_began b c.before.before.before.before.before.before.before.before.meet_all.ensures.grown)))
+    (λ c m b. c.meet_thoroughly.ensures m (remaining_began b c.meet_all-met.ensures.grown)))

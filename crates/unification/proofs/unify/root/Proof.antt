@@ -7,10 +7,10 @@ use Rattle.unification.proofs.Thorough.{root_begin, root_less, root_on}
 use Rattle.unification.proofs.unify.root.Statement.{statement}
 use Rattle.unification.proofs.unify.root.Tie as tie
 
-abbrev invariant-loop : tie.invariant-loop
+abbrev invariant-loop : tie.invariant-loop-link
 invariant-loop notes reference at₀ at = Rooted notes reference at
 
-abbrev decreases-loop : tie.decreases-loop
+abbrev decreases-loop : tie.decreases-loop-link
 decreases-loop notes reference at₀ at = at
 
 pub root_spec : {M : Type 1} → statement M
@@ -28,6 +28,6 @@ root_spec =
     (λ c. omega arith)
     (λ c. search rules)
     (λ c. omega arith)
-    (λ c. let entry = c.before.before.before.before.before.before.before in root_less entry.requires.0 entry.requires.1 c.before.before.before.before.before.loop.invariant c.before.before.wide2.ensures c.if2.false)
-    (λ c. let entry = c.before.before.before.before.before.before.before in root_on entry.requires.0 entry.requires.1 c.before.before.before.before.before.loop.invariant c.before.before.wide2.ensures c.if2.false)
+    (λ c. let entry = c in root_less entry.requires.0 entry.requires.1 c.loop-link.invariant c.wide-in-loop-link.ensures c.if-link-eq0.false)
+    (λ c. let entry = c in root_on entry.requires.0 entry.requires.1 c.loop-link.invariant c.wide-in-loop-link.ensures c.if-link-eq0.false)
     (λ c. search rules))

@@ -13,4 +13,4 @@ same_function_spec =
     (tie.spec
     (λ c κs. search rules)
     (λ c e. absurd (let z : ◌≡◌ {A = ℕ} 0 1 = cc in omega arith))
-    (λ c e. (sym c.before.kind.ensures ∙ c.if1.false, eqb-true _ _ e)))
+    (λ c e. (sym c.kind.ensures ∙ c.if-kind-ne1.false, eqb-true _ _ e)))

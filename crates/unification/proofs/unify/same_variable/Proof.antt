@@ -9,6 +9,6 @@ same_variable_spec =
     tie.close
     (tie.spec
     (λ c κs. search rules)
-    (λ c. names_none _ _ _ c.before.kind.ensures c.if1.true)
+    (λ c. names_none _ _ _ c.kind.ensures c.if-kind-ne0.true)
     (λ c κs. search rules)
-    (λ c. names_one _ _ _ c.before.before.kind.ensures c.before.if1.false c.variable-at.ensures))
+    (λ c. names_one _ _ _ c.kind.ensures c.if-kind-ne0.false c.variable_at.ensures))

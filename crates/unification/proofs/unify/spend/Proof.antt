@@ -8,9 +8,9 @@ pub spend_spec : {M : Type 1} → statement M
 spend_spec =
     tie.close
     (tie.spec
-    (λ c. spend_thorough c.before.requires c.if1.true)
+    (λ c. spend_thorough c.requires c.if-notes-ne1.true)
     (λ c. search rules)
     (λ c. search rules)
     (λ c. search rules)
     (λ c. search rules)
-    (λ c. spend_one c.before.before.requires c.before.if1.false))
+    (λ c. spend_one c.requires c.if-notes-ne1.false))

@@ -10,10 +10,10 @@ use Rattle.unification.proofs.Undo.{Popped, pop_begin, pop_few, pop_small, pop_o
 use Rattle.unification.proofs.unify.undo.Statement.{statement}
 use Rattle.unification.proofs.unify.undo.Tie as tie
 
-abbrev invariant-loop : tie.invariant-loop
+abbrev invariant-loop : tie.invariant-loop-count
 invariant-loop work₀ kept count₀ work count = (length work ≡ length work₀) × ((f : List ℕ) → Good f work₀ → Popped f work₀ work kept count)
 
-abbrev decreases-loop : tie.decreases-loop
+abbrev decreases-loop : tie.decreases-loop-count
 decreases-loop work₀ kept count₀ work count = count
 
 pub undo_spec : {M : Type 1} → statement M
@@ -22,19 +22,19 @@ undo_spec =
     (tie.spec
     invariant-loop
     decreases-loop
-    (λ c. omega (arith, c.before.before.requires.0.1.size))
-    (λ c. (refl, λ f h. pop_begin h c.before.before.requires.1))
+    (λ c. omega (arith, c.requires.0.1.size))
+    (λ c. (refl, λ f h. pop_begin h c.requires.1))
     (λ c. omega arith)
     (λ c κs. search rules)
-    (λ c. omega (arith, pop_few (c.before.before.loop.invariant.1 c.before.before.before.before.before.requires.0.0 c.before.before.before.before.before.requires.0.1), c.before.before.before.before.before.requires.0.1.size, c.before.before.loop.invariant.0))
-    (λ c. omega (arith, pop_few (c.before.before.loop.invariant.1 c.before.before.before.before.before.requires.0.0 c.before.before.before.before.before.requires.0.1), c.before.before.before.before.before.requires.0.1.size, c.before.before.loop.invariant.0))
-    (λ c. omega (arith, pop_few (c.before.before.before.loop.invariant.1 c.before.before.before.before.before.before.requires.0.0 c.before.before.before.before.before.before.requires.0.1), c.before.before.before.before.before.before.requires.0.1.size, c.before.before.before.loop.invariant.0))
+    (λ c. omega (arith, pop_few (c.loop-count.invariant.1 c.requires.0.0 c.requires.0.1), c.requires.0.1.size, c.loop-count.invariant.0))
+    (λ c. omega (arith, pop_few (c.loop-count.invariant.1 c.requires.0.0 c.requires.0.1), c.requires.0.1.size, c.loop-count.invariant.0))
+    (λ c. omega (arith, pop_few (c.loop-count.invariant.1 c.requires.0.0 c.requires.0.1), c.requires.0.1.size, c.loop-count.invariant.0))
     (λ c κs. search rules)
-    (λ c. let entry = c.before.before.before.before.before.before.before in omega (arith, pop_small (c.before.before.before.before.loop.invariant.1 entry.requires.0.0 entry.requires.0.1) c.before.before.before.loop-test.true c.before.before.wide.ensures refl c.wide2.ensures, entry.requires.0.1.size, c.before.before.before.before.loop.invariant.0))
-    (λ c. let entry = c.before.before.before.before.before.before.before in omega (arith, pop_small (c.before.before.before.before.loop.invariant.1 entry.requires.0.0 entry.requires.0.1) c.before.before.before.loop-test.true c.before.before.wide.ensures refl c.wide2.ensures, entry.requires.0.1.size, c.before.before.before.before.loop.invariant.0))
-    (λ c. let entry = c.before.before.before.before.before.before.before in omega (arith, pop_small (c.before.before.before.before.loop.invariant.1 entry.requires.0.0 entry.requires.0.1) c.before.before.before.loop-test.true c.before.before.wide.ensures refl c.wide2.ensures, entry.requires.0.1.size, c.before.before.before.before.loop.invariant.0))
+    (λ c. let entry = c in omega (arith, pop_small (c.loop-count.invariant.1 entry.requires.0.0 entry.requires.0.1) c.loop-count-test.true c.wide.ensures refl c.wide-in-loop-count.ensures, entry.requires.0.1.size, c.loop-count.invariant.0))
+    (λ c. let entry = c in omega (arith, pop_small (c.loop-count.invariant.1 entry.requires.0.0 entry.requires.0.1) c.loop-count-test.true c.wide.ensures refl c.wide-in-loop-count.ensures, entry.requires.0.1.size, c.loop-count.invariant.0))
+    (λ c. let entry = c in omega (arith, pop_small (c.loop-count.invariant.1 entry.requires.0.0 entry.requires.0.1) c.loop-count-test.true c.wide.ensures refl c.wide-in-loop-count.ensures, entry.requires.0.1.size, c.loop-count.invariant.0))
     (λ c. omega arith)
-    (λ c. (simp length-set c.before.before.before.before.loop.invariant.0, λ f h. pop_on (c.before.before.before.before.loop.invariant.1 f h) c.before.before.before.loop-test.true c.before.before.wide.ensures refl c.wide2.ensures))
-    (λ c. omega (arith, c.before.before.before.before.requires.0.1.size, c.before.loop.invariant.0))
-    (λ c. simp length-set c.before.loop.invariant.0)
-    (λ c f h. pop_done (c.before.loop.invariant.1 f h) c.loop-test.false))
+    (λ c. (simp length-set c.loop-count.invariant.0, λ f h. pop_on (c.loop-count.invariant.1 f h) c.loop-count-test.true c.wide.ensures refl c.wide-in-loop-count.ensures))
+    (λ c. omega (arith, c.requires.0.1.size, c.loop-count.invariant.0))
+    (λ c. simp length-set c.loop-count.invariant.0)
+    (λ c f h. pop_done (c.loop-count.invariant.1 f h) c.loop-count-test.false))
