@@ -7,7 +7,7 @@ import re
 import sys
 
 TOP = pathlib.Path(__file__).resolve().parent.parent
-CLAUSE = re.compile(r"\b(requires|ensures)\s*\{")
+CLAUSE = re.compile(r"\b(requires|ensures)\*?(\s+\w+)?\s*\{")
 # What the language's own library has as a function, Rust has as a method.
 WRAPPING = re.compile(r"(?m)^use std::num::(wrapping_(\w+)_(u\d+));\n")
 
@@ -23,16 +23,24 @@ def without_contracts(text):
     return kept + text[at:]
 
 
+def others_derived(found):
+    """A derive without what every type gets here, and without Drop, which Rust derives of itself."""
+    others = [it for it in re.split(r"\s*,\s*", found[1]) if it not in ("Clone", "Copy", "Drop", "")]
+    return f"#[derive({', '.join(others)})]\n" if others else ""
+
+
 def as_rust(text):
-    text = without_contracts(re.sub(r"(?m)^ghost use .*?;\n", "", text))
+    text = without_contracts(re.sub(r"(?m)^ *ghost use .*?;\n", "", text))
+    text = re.sub(r"(?m)^ *#!?\[(tactic|cycle)\(.*?\)\]\n", "", text)
+    text = re.sub(r"(?m)^#\[derive\((.*?)\)\]\n", others_derived, text)
     text = WRAPPING.sub(r"fn \1(a: \3, b: \3) -> \3 {\n    a.wrapping_\2(b)\n}\n", text)
     text = re.sub(r"(?m)^((?:pub(?:\(crate\))? )?(?:struct|enum) )", r"#[derive(Clone, Copy)]\n\1", text)
-    return text.replace("#[no_mangle]\n", "").replace('extern "C" fn', "fn")
+    return text.replace("#[unsafe(no_mangle)]\n", "").replace('extern "C" fn', "fn")
 
 
 def dependencies():
     lines = (line.split("#")[0] for line in (TOP / "crates.txt").read_text().splitlines())
-    return {name.strip(): needed.split() for name, _, needed in (line.partition(":") for line in lines if ":" in line)}
+    return {name.split()[0]: needed.split() for name, _, needed in (line.partition(":") for line in lines if ":" in line)}
 
 
 def write(path, text):

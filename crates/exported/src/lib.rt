@@ -1,4 +1,4 @@
-// Every public call for C, in one archive: the same names with a prefix, the same arguments in the same order, the same contracts.
+// Every public call: the same names with a prefix, the same arguments in the same order, the same contracts. `exported_c` puts them into one archive for C.
 #![tactic(auto)]
 
 ghost use Rattle.std.specs.Prelude.{◌≡◌, length};
