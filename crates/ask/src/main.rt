@@ -1,18 +1,21 @@
 // Document 01's program: reads a question from standard input and writes its answer. What it writes is asking::program::ask.
 #![tactic(auto)]
 
-use libc::{STDIN_FILENO, STDOUT_FILENO};
+use std::io;
+use std::io::{Print, Read};
 use text::part;
 
-fn answer(input: &[u8]) {
-    let mut out = io::large_buffer();
+// The most bytes of standard input that are read: more than the longest input that is not refused.
+const ROOM: u64 = 65536;
+
+fn answer(rt: &HostRuntime, input: &[u8]) -> io::Result<()> {
+    let mut out = [0u8; 65536];
     let n = asking::program::ask(input, &mut out);
-    io::write_all(STDOUT_FILENO, part::front_bytes(&out, n));
+    rt.write_all(part::front_bytes(&out, n))
 }
 
-// The buffer is longer than the longest input that is not refused.
-fn main() {
-    let mut space = io::large_buffer();
-    let n = io::read_full(STDIN_FILENO, &mut space);
-    answer(part::front_bytes(&space, n));
+fn main(rt: HostRuntime) -> io::Result<()> {
+    let mut input = Vec::new(rt.alloc());
+    rt.reader().take(ROOM).read_to_end(&mut input)?;
+    answer(&rt, &input)
 }

@@ -3,7 +3,11 @@
 
 ghost use Rattle.std.specs.Prelude.{◌≤◌, length};
 
-use libc::{STDIN_FILENO, STDOUT_FILENO};
+use std::io;
+use std::io::Read;
+
+// The most bytes of standard input that are read.
+const ROOM: u64 = 4096;
 
 // Where the line that starts at a place ends: at a line feed, or with the text.
 fn line_end(text: &[u8], from: usize) -> usize
@@ -20,23 +24,23 @@ fn line_end(text: &[u8], from: usize) -> usize
     end
 }
 
-fn print_fingerprint(line: &[u8]) {
+fn print_fingerprint(rt: &impl Print, line: &[u8]) -> io::Result<()> {
     let h = words::fields::wide(words::fingerprint::of_bytes(line));
-    io::print_hex(STDOUT_FILENO, h as u64, 8);
-    io::write_all(STDOUT_FILENO, b"\n");
+    println!(rt; "{h:08x}")
 }
 
-fn print_lines(text: &[u8]) {
+fn print_lines(rt: &impl Print, text: &[u8]) -> io::Result<()> {
     let mut at = 0;
     while at < text.len() {
         let end = line_end(text, at);
-        print_fingerprint(&text[at..end]);
+        print_fingerprint(rt, &text[at..end])?;
         at = end + 1;
     }
+    Ok(())
 }
 
-fn main() {
-    let mut space = io::buffer();
-    let n = io::read_full(STDIN_FILENO, &mut space);
-    print_lines(&space[..n]);
+fn main(rt: HostRuntime) -> io::Result<()> {
+    let mut text = Vec::new(rt.alloc());
+    rt.reader().take(ROOM).read_to_end(&mut text)?;
+    print_lines(&rt, &text)
 }
