@@ -1,10 +1,8 @@
 -- The desk's records in a line, one law for each outcome, with premises as the code has them.
-use mathlib.Core.Path.{◌≡◌, refl, sym, ap, ◌∙◌}
-use mathlib.Core.Bool.{Bool, true, false, cond}
+use mathlib.Core.Path.{◌≡◌, refl, sym, ◌∙◌}
 use mathlib.Core.List.{List, [], ◌∷◌}
-use Prim.Native.Nat.{ℕ, zero, suc, ◌+◌, ◌-◌, ◌^◌, ◌≤◌, ◌<◌}
+use Prim.Native.Nat.{ℕ, ◌+◌, ◌-◌, ◌^◌, ◌≤◌, ◌<◌}
 use native.Mathlib.Omega.{arith}
-use lib.Dec.{eqb, ltb}
 use lib.ListN.{length, take, drop, get_or, drop_of_length-le, length-drop}
 use mir.Syntax.{w64}
 use mir.Val.{Fits}
@@ -13,10 +11,9 @@ use Rattle.text.specs.Put.{Put}
 use Rattle.text.proofs.Putting.{Left, further, finish, then}
 use Rattle.text.proofs.Written.{from_place}
 use Rattle.requests.specs.Pieces.{up_to, piece_at, pieces_at, next_at, decimal_at, run_from}
-use Rattle.requests.specs.Records.{slot_of, with_slot, with_house, with_day, record_of, right, is_record, record_and, record_words}
+use Rattle.requests.specs.Records.{slot_of, with_slot, record_of, is_record, record_words}
 use Rattle.requests.specs.declared.piece.Number.{Number}
 use Rattle.requests.specs.declared.piece.Number.TheVariants.{Value, Bad}
-use Rattle.requests.specs.declared.piece.Run.{Run}
 use Rattle.requests.specs.declared.records.Record.{Record}
 use Rattle.requests.specs.declared.records.Record.TheVariants.{Said, Wrong}
 use Rattle.requests.proofs.Lists.{Running, run_begin, run_over, run_counts, run_stops, run_goes, after_piece, pieces_step, pieces_over, front_length, front_take, is_part}

@@ -1,8 +1,7 @@
 -- Lines read as requests, by computation: the values of a row that is met, and lines that are no request.
 use mathlib.Core.Path.{◌≡◌, refl}
 use mathlib.Core.Bool.{Bool, true, false}
-use mathlib.Core.List.{List, [], ◌∷◌}
-use Prim.Native.Nat.{ℕ}
+use mathlib.Core.List.{[], ◌∷◌}
 use Prim.Native.String.{String}
 use lib.ListN.{drop}
 use Rattle.text.specs.Quoted.{bytes}

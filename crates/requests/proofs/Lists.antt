@@ -1,8 +1,8 @@
 -- Pieces and lists of words in a line, one law for each outcome, with premises as the code has them.
 use mathlib.Core.Path.{◌≡◌, refl, sym, ap, ◌∙◌}
 use mathlib.Core.Bool.{Bool, true, false, cond, ◌&&◌}
-use mathlib.Core.List.{List, [], ◌∷◌, ◌++◌}
-use mathlib.Core.Option.{Option, none, some}
+use mathlib.Core.List.{List, [], ◌∷◌}
+use mathlib.Core.Option.{none, some}
 use Prim.Native.Nat.{ℕ, zero, suc, ◌+◌, ◌-◌, ◌^◌, ◌≤◌, ◌<◌}
 use native.Mathlib.Nat.{zero-add, le_of_suc-le-suc, not-suc-le-zero}
 use native.Mathlib.Omega.{arith}
@@ -12,10 +12,9 @@ use mir.Syntax.{w64}
 use mir.Val.{Fits}
 use borrow.Author.Tests.{eq-eqb, ne_eqb}
 use Rattle.text.specs.Put.{Put}
-use Rattle.requests.specs.Pieces.{up_to, piece, pieces, pieces_at, onto, piece_at, next_at, found, word_of, word_at, same_bytes, before, leading, is_word, run_from}
+use Rattle.requests.specs.Pieces.{up_to, piece, pieces, pieces_at, onto, piece_at, next_at, word_of, word_at, same_bytes, leading, is_word, run_from}
 use Rattle.requests.specs.declared.piece.Number.{Number}
 use Rattle.requests.specs.declared.piece.Number.TheVariants.{Value, Bad}
-use Rattle.requests.specs.declared.piece.Run.{Run}
 use Rattle.text.proofs.Putting.{Left, further, finish}
 use Rattle.text.proofs.Written.{from_place}
 use Rattle.requests.proofs.Numbers.{mark_over, mark_met, mark_ahead, found_none, found_value, found_next}

@@ -1,11 +1,10 @@
 -- Requests read from a line, one law for each outcome, with premises as the code has them.
-use mathlib.Core.Path.{◌≡◌, refl, sym, ap, ◌∙◌}
-use mathlib.Core.Bool.{Bool, true, false, cond, ◌&&◌}
+use mathlib.Core.Path.{◌≡◌, refl, sym, ◌∙◌}
+use mathlib.Core.Bool.{Bool, true, false}
 use mathlib.Core.List.{List, [], ◌∷◌}
 use Prim.Native.Nat.{ℕ, zero, suc, ◌+◌, ◌-◌, ◌*◌, ◌^◌, ◌≤◌, ◌<◌}
-use Prim.Native.Char.{code}
 use native.Mathlib.Omega.{arith}
-use lib.Dec.{eqb, leb, ltb}
+use lib.Dec.{ltb}
 use lib.ListN.{length, drop, get_or, length-drop, drop_of_length-le}
 use lib.Seq.{drop-drop}
 use mir.Syntax.{w64}
@@ -17,7 +16,7 @@ use Rattle.text.proofs.Putting.{Left, begin, further as write-on, finish}
 use Rattle.text.proofs.Written.{from_place}
 use Rattle.requests.specs.Pieces.{piece_at, pieces_at, decimal_at, same_bytes, run_from}
 use Rattle.requests.specs.Bytes.{bytes_of}
-use Rattle.requests.specs.Rows.{up_to, number_at, counted, run_at, words_at, records_at, wholly, bytes_at, list_at, barred_at, field_at, further, ends_with, value_and, values_from, asks, values_asked}
+use Rattle.requests.specs.Rows.{number_at, counted, run_at, words_at, records_at, wholly, bytes_at, list_at, barred_at, field_at, ends_with, values_from, asks, values_asked}
 use Rattle.requests.specs.declared.piece.Number.{Number}
 use Rattle.requests.specs.declared.piece.Number.TheVariants.{Value, Bad}
 use Rattle.requests.specs.declared.piece.Run.{Run}

@@ -1,5 +1,5 @@
 -- Bytes in a line: two hexadecimal digits each, run together.
-use Rattle.std.specs.Prelude.{Bool, true, false, cond, List, [], ◌∷◌, ℕ, ◌+◌, ◌*◌, leb, ltb}
+use Rattle.std.specs.Prelude.{cond, List, [], ◌∷◌, ℕ, ◌+◌, ◌*◌, leb, ltb}
 use Rattle.requests.specs.Pieces.{digit_of}
 
 -- what two digits stand for; 256: no byte

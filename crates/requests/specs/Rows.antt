@@ -1,6 +1,6 @@
 -- A line as a request: its verb is the first piece, and the pieces after it are the fields of the verb's row.
 -- A row is told by a letter for each field and by the most that each may be: a number's limit, a list's length.
-use Rattle.std.specs.Prelude.{Bool, true, false, cond, ◌&&◌, List, [], ◌∷◌, ℕ, ◌+◌, ◌*◌, eqb, leb, ltb, length, drop, get_or}
+use Rattle.std.specs.Prelude.{Bool, false, cond, ◌&&◌, List, [], ◌∷◌, ℕ, ◌+◌, ◌*◌, eqb, ltb, length, drop, get_or}
 use Prim.Native.Char.{code}
 use Rattle.text.specs.Quoted.{bytes}
 use Rattle.requests.specs.Pieces.{piece_at, pieces_at, decimal_at, same_bytes, is_word, run_from}

@@ -1,7 +1,7 @@
 -- The clauses that education sees, flagged one by one, and the file made of them: one law for each outcome, with premises as the code has them.
 use lib.ListN.{length, take, drop, get_or, set, length-map}
 use lib.Seq.{take-suc, take_all, get_or-take, get_or-drop}
-use mathlib.Core.Bool.{Bool, true, false, not}
+use mathlib.Core.Bool.{Bool, not}
 use mathlib.Core.List.{List, [], ◌∷◌, ◌++◌, map, map-append}
 use mathlib.Core.Path.{◌≡◌, refl, sym, ap, ◌∙◌}
 use native.Mathlib.Nat.{add-zero}
@@ -13,7 +13,7 @@ use Rattle.words.proofs.Packed.{clause_restricted}
 use Rattle.table.specs.Syntax.{Clause, Table}
 use Rattle.table.specs.Seen.{unrestricted_of, unrestricted}
 use Rattle.table.specs.Build.{at_front}
-use Rattle.table.specs.Encode.{literals_words, clause_words, body_words, file_words}
+use Rattle.table.specs.Encode.{literals_words, clause_words, file_words}
 use Rattle.table.specs.File.{judge, table_in}
 use Rattle.table.specs.Limits.{ClauseWithin}
 use Rattle.table.specs.declared.Judgement.{Judgement}

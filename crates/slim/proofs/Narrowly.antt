@@ -8,7 +8,7 @@ use mathlib.Core.List.{List}
 use mathlib.Core.Path.{◌≡◌, refl, sym, ap, ◌∙◌}
 use native.Mathlib.Omega.{arith}
 use borrow.Author.Tests.{eqb-true, eqb-false}
-use Prim.Native.Nat.{ℕ, suc, ◌≤◌, ◌<◌}
+use Prim.Native.Nat.{ℕ, suc, ◌<◌}
 use Rattle.table.specs.Syntax.{Clause, Table}
 use Rattle.table.specs.Encode.{clause_words}
 use Rattle.table.specs.Limits.{FileWithin}
@@ -17,7 +17,7 @@ use Rattle.slim.specs.Dropping as Dropping
 use Rattle.slim.specs.Rounds.{kept_flags}
 use Rattle.slim.specs.Narrowly.{repeats_present, droppable_narrowly, LeadsNarrowly, as_it_is, and_drops, SlimNarrowly, SameReadNarrowly}
 use Rattle.slim.proofs.Comparing.{same_self}
-use Rattle.slim.proofs.Settled.{Within, or_more, cleared, false_true, place_chosen, dead_still, one_slim, kept_slim, flag_below, leads_length, slim_length}
+use Rattle.slim.proofs.Settled.{Within, or_more, cleared, false_true, place_chosen, dead_still, one_slim, kept_slim, flag_below, leads_length}
 use Rattle.slim.proofs.Promises.{some_of_chosen, or_neither, not_so, Earliest, earliest}
 
 module _ (t : Table) where

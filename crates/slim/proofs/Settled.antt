@@ -1,5 +1,5 @@
 -- What drops lead to when nothing more drops is one, whatever their order, and it is what the rounds leave.
-use lib.ListN.{length, drop, get_or, set, replicate, length-set, length-replicate, get_or-replicate}
+use lib.ListN.{length, get_or, set, replicate, length-set, length-replicate, get_or-replicate}
 use lib.Seq.{get_or-set_other, ext_get_or, get_or_at}
 use lib.ListN.{get_or-append}
 use lib.Dec.{eqb}

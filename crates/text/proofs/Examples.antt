@@ -1,7 +1,6 @@
 -- Text written, by computation.
 use mathlib.Core.Path.{◌≡◌, refl}
-use mathlib.Core.List.{List, [], ◌∷◌}
-use Prim.Native.Nat.{ℕ}
+use mathlib.Core.List.{[], ◌∷◌}
 use Rattle.text.specs.Quoted.{bytes}
 use Rattle.text.specs.Put.{put, after}
 use Rattle.text.specs.Digits.{digits_of, significant, hex_text, decimal_text, spaced_text, words_text, pairs_text, bytes_text}

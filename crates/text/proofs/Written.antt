@@ -1,18 +1,16 @@
 -- Text written byte by byte, one law for each outcome, with premises as the code has them.
 use mathlib.Core.Path.{◌≡◌, refl, sym, ap, ◌∙◌}
-use mathlib.Core.Bool.{cond}
-use mathlib.Core.List.{List, [], ◌∷◌, ◌++◌}
-use Prim.Native.Nat.{ℕ, zero, suc, ◌+◌, ◌-◌, ◌*◌, ◌/◌, ◌%◌, ◌^◌, ◌≤◌, ◌<◌}
+use mathlib.Core.List.{List, [], ◌∷◌}
+use Prim.Native.Nat.{ℕ, zero, suc, ◌+◌, ◌-◌, ◌/◌, ◌%◌, ◌^◌, ◌≤◌, ◌<◌}
 use native.Mathlib.Nat.{pow-zero, pow-suc, pow-succ', one-mul, le-div_iff_mul-le, div-lt_iff_lt-mul, mul-div_cancel, mul-pos, mod-eq_of_lt, mod-lt, div-eq_of_lt}
 use native.Mathlib.Numerals.{add-one}
 use native.Mathlib.Omega.{arith}
-use lib.Dec.{eqb, ltb}
 use lib.ListN.{length, take, drop, get_or, drop_of_length-le}
 use lib.Seq.{drop-cons, take_all}
-use borrow.Author.Tests.{lt-ltb, le-ltb, eq-eqb, ne_eqb}
-use Rattle.text.specs.Put.{put, Put}
+use borrow.Author.Tests.{lt-ltb, le-ltb, ne_eqb}
+use Rattle.text.specs.Put.{Put}
 use Rattle.text.specs.Digits.{glyph_of, digits_of, hex_text, significant, decimal_text, spaced_text, words_text, pairs_text, bytes_text, long_decimal_text}
-use Rattle.text.proofs.Putting.{Left, begin, further, finish, then}
+use Rattle.text.proofs.Putting.{Left, further, finish, then}
 
 pub from_place : (own : List ℕ) (at : ℕ) → at < length own → drop at own ≡ get_or own at 0 ∷ drop (at + 1) own
 from_place own at h = rw (add-one, drop-cons own at 0 h)

@@ -7,10 +7,10 @@ use Rattle.seen.proofs.flag_seen.Tie as tie
 
 ruleset all = (rules, flag_laws)
 
-abbrev invariant-loop : tie.invariant-loop
+abbrev invariant-loop : tie.invariant-loop-at
 invariant-loop file question present₀ number₀ at₀ present number at = Flagged (table_in file) present₀ number at present
 
-abbrev decreases-loop : tie.decreases-loop
+abbrev decreases-loop : tie.decreases-loop-at
 decreases-loop file question present₀ number₀ at₀ present number at = question - at
 
 pub flag_seen_spec : {M : Type 1} → statement M

@@ -6,10 +6,10 @@ use Rattle.clauselines.proofs.call.lines.Tie as tie
 
 ruleset all = (rules, walk_laws)
 
-abbrev invariant-loop : tie.invariant-loop
+abbrev invariant-loop : tie.invariant-loop-at
 invariant-loop file question out₀ at₀ number₀ end₀ out at number end = Walking file question at number out₀ out end
 
-abbrev decreases-loop : tie.decreases-loop
+abbrev decreases-loop : tie.decreases-loop-at
 decreases-loop file question out₀ at₀ number₀ end₀ out at number end = question - at
 
 pub lines_spec : {M : Type 1} → statement M

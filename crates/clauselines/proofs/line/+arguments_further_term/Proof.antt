@@ -53,10 +53,10 @@ term_at t = and 2 term-kinds.ps (is 2 term-kinds.ps μ_term t) term.Pre
 abbrev term_below : ℕ → In 2 term-kinds.ps
 term_below t = and 2 term-kinds.ps (falls 2 term-kinds.ps ◌<◌ μ_term t) term.Pre
 
-abbrev Inv : further-lts.invariant-loop
+abbrev Inv : further-lts.invariant-loop-left
 Inv own at many out₀ from next₀ end₀ left₀ out next end left = Going own at many out₀ from next left out end
 
-abbrev μ : further-lts.decreases-loop
+abbrev μ : further-lts.decreases-loop-left
 μ own at many out₀ from next₀ end₀ left₀ out next end left = left
 
 abbrev told_arguments : ℕ → arguments-lts.Claims
@@ -68,8 +68,8 @@ told_further t = (byte-Reads.Asked, byte-Reads.Learnt, term_below t, term.Post)
 abbrev told_term : ℕ → term-lts.Claims
 told_term t = (kind-reads.Asked, kind-reads.Learnt, number-reads.Asked, number-reads.Learnt, field-reads.Asked, field-reads.Learnt, symbol-reads.Asked, symbol-reads.Learnt, arity-reads.Asked, arity-reads.Learnt, arguments_below t, arguments.Post)
 
-pub +arguments-further-term-spec : {M : Type 1} → statement M
-+arguments-further-term-spec =
+pub +arguments_further_term_spec : {M : Type 1} → statement M
++arguments_further_term_spec =
     close
     μ_arguments
     μ_further
@@ -82,7 +82,7 @@ pub +arguments-further-term-spec : {M : Type 1} → statement M
     (λ c κs. search all)
     (λ c κs. search all)
     (λ c. search all)
-    (λ c κs. let pre = c.before.before.before.before.before.before.before.before.before.before.before.before.requires in let n = c.before.before.before.before.before.before.before.before.before.if1.false in let w = c.before.before.before.term.ensures in (others_fewer n w pre.1 pre.0, others_here n w pre.1))
+    (λ c κs. let pre = c.requires in let n = c.if-many-eq0.false in let w = c.term-first.ensures in (others_fewer n w pre.1 pre.0, others_here n w pre.1))
     (λ c. search all)
     (λ c. search all))
     (λ t. further-lts.spec
@@ -107,17 +107,15 @@ pub +arguments-further-term-spec : {M : Type 1} → statement M
     (λ c. search all)
     (λ c. search all)
     (λ c κs. search all)
-    (λ c. search all)
     (λ c κs. search all)
     (λ c κs. search all)
-    (λ c. next_fits c.before.before.before.before.before.before.before.before.before.before.before.requires.1 (search rules))
-    (λ c. search all)
+    (λ c. next_fits c.requires.1 (search rules))
     (λ c. search all)
     (λ c. search all)
     (λ c κs. search all)
     (λ c κs. search all)
-    (λ c. next_fits c.before.before.before.before.before.before.before.before.before.before.before.requires.1 (search rules))
+    (λ c. next_fits c.requires.1 (search rules))
     (λ c κs. search all)
-    (λ c κs. let pre = c.before.before.before.before.before.before.before.before.before.before.before.before.before.requires in (arguments_fewer pre.1 pre.0, arguments_here c.before.before.before.before.before.before.before.before.before.kind.ensures c.before.before.before.before.before.before.before.before.if1.false c.before.arity.ensures pre.1))
+    (λ c κs. let pre = c.requires in (arguments_fewer pre.1 pre.0, arguments_here c.kind.ensures c.if-kind-eq0.false c.arity.ensures pre.1))
     (λ c. search all)
     (λ c. search all)

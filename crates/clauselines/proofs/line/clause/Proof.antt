@@ -9,11 +9,9 @@ pub clause_spec : {M : Type 1} → statement M
 clause_spec =
     tie.close
     (tie.spec
-    (λ c. search all)
     (λ c κs. search all)
     (λ c κs. search all)
     (λ c κs. search all)
-    (λ c. search all)
     (λ c κs. search all)
     (λ c. search all)
-    (λ c. let args = c.before.before.before.before.before.before.before.before.before.before.before.before.before.before.before.before.before.before.before.before.args in clause_written args.own.now args.number args.asked c.before.before.before.before.before.before.before.before.before.before.before.before.before.before.before.field.ensures c.before.before.before.before.before.before.before.before.before.before.before.role.ensures c.before.before.before.before.before.before.before.literals.ensures c.before.before.bytes.ensures))
+    (λ c. let args = c.args in clause_written args.own.now args.number args.asked c.field-name.ensures c.role-opened.ensures c.literals-closed.ensures c.bytes.ensures))

@@ -9,7 +9,6 @@ pub sign_spec : {M : Type 1} → statement M
 sign_spec =
     tie.close
     (tie.spec
-    (λ c. search all)
     (λ c κs. search all)
     (λ c. search all)
     (λ c. search all)

@@ -9,4 +9,4 @@ count_spec =
     (tie.spec
     (λ c. search rules)
     (λ c κs. search rules)
-    (λ c. let args = c.before.before.before.before.args in bytes_counted args.line.now args.from c.before.gather.ensures (search rules)))
+    (λ c. let args = c.args in bytes_counted args.line.now args.from c.gather.ensures (search rules)))

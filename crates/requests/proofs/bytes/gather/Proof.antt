@@ -9,10 +9,10 @@ use Rattle.requests.proofs.bytes.gather.Tie as tie
 
 ruleset all = (rules, begin, bytes_laws)
 
-abbrev invariant-loop : tie.invariant-loop
+abbrev invariant-loop : tie.invariant-loop-at
 invariant-loop line from out₀ at₀ used₀ out at used = Left out₀ 0 (bytes_of (drop from line)) out used (bytes_of (drop at line))
 
-abbrev decreases-loop : tie.decreases-loop
+abbrev decreases-loop : tie.decreases-loop-at
 decreases-loop line from out₀ at₀ used₀ out at used = length line - at
 
 pub gather_spec : {M : Type 1} → statement M

@@ -7,10 +7,10 @@ use Rattle.requests.proofs.piece.end_of.Tie as tie
 
 ruleset all = (rules, end_laws)
 
-abbrev invariant-loop : tie.invariant-loop
+abbrev invariant-loop : tie.invariant-loop-end
 invariant-loop line from mark end₀ end = Ending line from mark end
 
-abbrev decreases-loop : tie.decreases-loop
+abbrev decreases-loop : tie.decreases-loop-end
 decreases-loop line from mark end₀ end = length line - end
 
 pub end_of_spec : {M : Type 1} → statement M

@@ -9,10 +9,10 @@ use Rattle.requests.proofs.piece.gather.Tie as tie
 
 ruleset all = (rules, begin, gather_laws)
 
-abbrev invariant-loop : tie.invariant-loop
+abbrev invariant-loop : tie.invariant-loop-at
 invariant-loop line from out₀ at₀ used₀ out at used = Left out₀ 0 (leading (pieces_at line from)) out used (leading (pieces_at line at))
 
-abbrev decreases-loop : tie.decreases-loop
+abbrev decreases-loop : tie.decreases-loop-at
 decreases-loop line from out₀ at₀ used₀ out at used = length line + 1 - at
 
 pub gather_spec : {M : Type 1} → statement M

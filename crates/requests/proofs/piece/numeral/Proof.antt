@@ -7,10 +7,10 @@ use Rattle.requests.proofs.piece.numeral.Tie as tie
 
 ruleset all = (rules, number_laws)
 
-abbrev invariant-loop : tie.invariant-loop
+abbrev invariant-loop : tie.invariant-loop-at
 invariant-loop line from mark base at₀ value₀ at value = Reading mark base line from at value
 
-abbrev decreases-loop : tie.decreases-loop
+abbrev decreases-loop : tie.decreases-loop-at
 decreases-loop line from mark base at₀ value₀ at value = length line - at
 
 pub numeral_spec : {M : Type 1} → statement M

@@ -7,10 +7,10 @@ use Rattle.requests.proofs.piece.same.Tie as tie
 
 ruleset all = (rules, match_laws)
 
-abbrev invariant-loop : tie.invariant-loop
+abbrev invariant-loop : tie.invariant-loop-i
 invariant-loop a b i₀ i = Matching a b i
 
-abbrev decreases-loop : tie.decreases-loop
+abbrev decreases-loop : tie.decreases-loop-i
 decreases-loop a b i₀ i = length a - i
 
 pub same_spec : {M : Type 1} → statement M

@@ -8,10 +8,10 @@ use Rattle.requests.proofs.piece.words.Tie as tie
 
 ruleset all = (rules, run_laws)
 
-abbrev invariant-loop : tie.invariant-loop
+abbrev invariant-loop : tie.invariant-loop-at
 invariant-loop line from at₀ count₀ at count = Running is_word line from count at
 
-abbrev decreases-loop : tie.decreases-loop
+abbrev decreases-loop : tie.decreases-loop-at
 decreases-loop line from at₀ count₀ at count = length line + 1 - at
 
 pub words_spec : {M : Type 1} → statement M

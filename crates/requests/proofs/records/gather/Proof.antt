@@ -10,10 +10,10 @@ use Rattle.requests.proofs.records.gather.Tie as tie
 
 ruleset all = (rules, begin, gather_laws)
 
-abbrev invariant-loop : tie.invariant-loop
+abbrev invariant-loop : tie.invariant-loop-at
 invariant-loop line from out₀ at₀ used₀ out at used = Left out₀ 0 (record_words (pieces_at line from)) out used (record_words (pieces_at line at))
 
-abbrev decreases-loop : tie.decreases-loop
+abbrev decreases-loop : tie.decreases-loop-at
 decreases-loop line from out₀ at₀ used₀ out at used = length line + 1 - at
 
 pub gather_spec : {M : Type 1} → statement M
@@ -32,7 +32,7 @@ gather_spec =
     (λ c. search all)
     (λ c. search all)
     (λ c. search all)
-    (λ c. let e = c.before.before.before.before.before in next_fits e.before.before.before.before.before.args.line.now e.before.before.loop.at e.end_of_lem.ensures e.before.loop-test.true (search rules))
+    (λ c. let e = c in next_fits e.args.line.now e.loop-at.at e.end_of-end.ensures e.loop-at-test.true (search rules))
     (λ c κs. search all)
     (λ c κs. search all)
     (λ c κs. search all)

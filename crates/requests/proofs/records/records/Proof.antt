@@ -9,10 +9,10 @@ use Rattle.requests.proofs.records.records.Tie as tie
 
 ruleset all = (rules, records_laws)
 
-abbrev invariant-loop : tie.invariant-loop
+abbrev invariant-loop : tie.invariant-loop-at
 invariant-loop line from at₀ count₀ at count = Running is_record line from count at
 
-abbrev decreases-loop : tie.decreases-loop
+abbrev decreases-loop : tie.decreases-loop-at
 decreases-loop line from at₀ count₀ at count = length line + 1 - at
 
 pub records_spec : {M : Type 1} → statement M
@@ -31,7 +31,7 @@ records_spec =
     (λ c. search all)
     (λ c. search all)
     (λ c. search all)
-    (λ c. let e = c.before.before.before.before in next_fits e.before.before.before.before.args.line.now e.before.before.loop.at e.end_of_lem.ensures e.before.loop-test.true (search rules))
+    (λ c. let e = c in next_fits e.args.line.now e.loop-at.at e.end_of-end.ensures e.loop-at-test.true (search rules))
     (λ c. search all)
     (λ c. search all)
     (λ c. search all))

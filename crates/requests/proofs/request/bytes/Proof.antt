@@ -10,16 +10,15 @@ pub bytes_spec : {M : Type 1} → statement M
 bytes_spec =
     tie.close
     (tie.spec
-    (λ c. search all)
     (λ c κs. search all)
-    (λ c. let args = c.before.before.before.before.args in mark_fits args.line.now args.at _ c.before.is.ensures c.if1.true (search rules))
-    (λ c. search all)
-    (λ c κs. search all)
+    (λ c. let args = c.args in mark_fits args.line.now args.at _ c.is.ensures c.if-is.true (search rules))
     (λ c. search all)
     (λ c κs. search all)
     (λ c. search all)
-    (λ c. let args = c.before.before.before.before.before.before.before.args in twice_fits args.line.now args.at c.before.before.count.ensures (search rules))
+    (λ c κs. search all)
+    (λ c. search all)
+    (λ c. let args = c.args in twice_fits args.line.now args.at c.count-count.ensures (search rules))
     (λ c. search all)
     (λ c. search all)
-    (λ c. let e = c.before.before in let args = e.before.before.before.before.before.before.before.args in end_fits args.line.now args.at e.before.before.count.ensures (search rules) (search rules) _ (search rules))
+    (λ c. let e = c in let args = e.args in end_fits args.line.now args.at e.count-count.ensures (search rules) (search rules) _ (search rules))
     (λ c. search all))

@@ -9,9 +9,8 @@ pub records_spec : {M : Type 1} → statement M
 records_spec =
     tie.close
     (tie.spec
-    (λ c. search all)
     (λ c κs. search all)
-    (λ c. let args = c.before.before.before.before.args in mark_fits args.line.now args.at _ c.before.is.ensures c.if1.true (search rules))
+    (λ c. let args = c.args in mark_fits args.line.now args.at _ c.is.ensures c.if-is.true (search rules))
     (λ c. search all)
     (λ c κs. search all)
     (λ c κs. search all)

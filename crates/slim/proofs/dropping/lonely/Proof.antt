@@ -7,10 +7,10 @@ use Rattle.slim.proofs.dropping.lonely.Tie as tie
 
 ruleset all = (rules, seek_laws)
 
-abbrev invariant-loop : tie.invariant-loop
+abbrev invariant-loop : tie.invariant-loop-i
 invariant-loop words marks i₀ i = Seeking marks words i
 
-abbrev decreases-loop : tie.decreases-loop
+abbrev decreases-loop : tie.decreases-loop-i
 decreases-loop words marks i₀ i = length words - i
 
 pub lonely_spec : {M : Type 1} → statement M

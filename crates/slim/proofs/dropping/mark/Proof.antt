@@ -7,10 +7,10 @@ use Rattle.slim.proofs.dropping.mark.Tie as tie
 
 ruleset all = (rules, show_laws)
 
-abbrev invariant-loop : tie.invariant-loop
+abbrev invariant-loop : tie.invariant-loop-next
 invariant-loop file question present marks₀ number₀ next₀ marks number next = Shown (table_in file) present number next marks
 
-abbrev decreases-loop : tie.decreases-loop
+abbrev decreases-loop : tie.decreases-loop-next
 decreases-loop file question present marks₀ number₀ next₀ marks number next = question - next
 
 pub mark_spec : {M : Type 1} → statement M

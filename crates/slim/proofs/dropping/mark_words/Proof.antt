@@ -7,10 +7,10 @@ use Rattle.slim.proofs.dropping.mark_words.Tie as tie
 
 ruleset all = (rules, look_laws)
 
-abbrev invariant-loop : tie.invariant-loop
+abbrev invariant-loop : tie.invariant-loop-i
 invariant-loop words marks₀ i₀ marks i = Looking words marks₀ i marks
 
-abbrev decreases-loop : tie.decreases-loop
+abbrev decreases-loop : tie.decreases-loop-i
 decreases-loop words marks₀ i₀ marks i = length words - i
 
 pub mark_words_spec : {M : Type 1} → statement M

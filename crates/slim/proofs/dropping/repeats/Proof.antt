@@ -7,10 +7,10 @@ use Rattle.slim.proofs.dropping.repeats.Tie as tie
 
 ruleset all = (rules, differs_laws)
 
-abbrev invariant-loop : tie.invariant-loop
+abbrev invariant-loop : tie.invariant-loop-i
 invariant-loop file question number at end i₀ next₀ i next = Differs (table_in file) number i next
 
-abbrev decreases-loop : tie.decreases-loop
+abbrev decreases-loop : tie.decreases-loop-i
 decreases-loop file question number at end i₀ next₀ i next = number - i
 
 pub repeats_spec : {M : Type 1} → statement M

@@ -7,10 +7,10 @@ use Rattle.slim.proofs.dropping.same_words.Tie as tie
 
 ruleset all = (rules, compare_laws)
 
-abbrev invariant-loop : tie.invariant-loop
+abbrev invariant-loop : tie.invariant-loop-i
 invariant-loop left right i₀ i = Comparing left right i
 
-abbrev decreases-loop : tie.decreases-loop
+abbrev decreases-loop : tie.decreases-loop-i
 decreases-loop left right i₀ i = length left - i
 
 pub same_words_spec : {M : Type 1} → statement M

@@ -6,10 +6,10 @@ use Rattle.slim.proofs.dropping.settle.Tie as tie
 
 ruleset all = (rules, settle_laws)
 
-abbrev invariant-loop : tie.invariant-loop
+abbrev invariant-loop : tie.invariant-loop-left
 invariant-loop file question present₀ left₀ present left = Settling (table_in file) left present
 
-abbrev decreases-loop : tie.decreases-loop
+abbrev decreases-loop : tie.decreases-loop-left
 decreases-loop file question present₀ left₀ present left = left
 
 pub settle_spec : {M : Type 1} → statement M

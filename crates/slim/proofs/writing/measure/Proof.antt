@@ -7,10 +7,10 @@ use Rattle.slim.proofs.writing.measure.Tie as tie
 
 ruleset all = (rules, count_laws)
 
-abbrev invariant-loop : tie.invariant-loop
+abbrev invariant-loop : tie.invariant-loop-next
 invariant-loop file question present number₀ next₀ words₀ clauses₀ number next words clauses = Counting (table_in file) present number next words clauses
 
-abbrev decreases-loop : tie.decreases-loop
+abbrev decreases-loop : tie.decreases-loop-next
 decreases-loop file question present number₀ next₀ words₀ clauses₀ number next words clauses = question - next
 
 pub measure_spec : {M : Type 1} → statement M

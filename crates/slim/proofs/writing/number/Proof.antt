@@ -7,10 +7,10 @@ use Rattle.slim.proofs.writing.number.Tie as tie
 
 ruleset all = (rules, number_laws)
 
-abbrev invariant-loop : tie.invariant-loop
+abbrev invariant-loop : tie.invariant-loop-next
 invariant-loop present numbers₀ next₀ kept₀ numbers next kept = Numbered present numbers₀ next kept numbers
 
-abbrev decreases-loop : tie.decreases-loop
+abbrev decreases-loop : tie.decreases-loop-next
 decreases-loop present numbers₀ next₀ kept₀ numbers next kept = length present - next
 
 pub number_spec : {M : Type 1} → statement M

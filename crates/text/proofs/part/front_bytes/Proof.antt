@@ -11,6 +11,6 @@ pub front_bytes_spec : {M : Type 1} → statement M
 front_bytes_spec =
     tie.close
     (tie.spec
-    (λ c. let args = c.before.before.args in part_length args.n args.list.now (omega arith))
+    (λ c. let args = c.args in part_length args.n args.list.now (omega arith))
     (λ c. search all)
     (λ c. search all))

@@ -8,10 +8,10 @@ use Rattle.text.proofs.put.bytes.Tie as tie
 
 ruleset all = (rules, begin, byte_more, byte_last)
 
-abbrev invariant-loop : tie.invariant-loop
+abbrev invariant-loop : tie.invariant-loop-i
 invariant-loop out₀ from text at₀ i₀ out at i = (i ≤ length text) × Left out₀ from text out at (drop i text)
 
-abbrev decreases-loop : tie.decreases-loop
+abbrev decreases-loop : tie.decreases-loop-i
 decreases-loop out₀ from text at₀ i₀ out at i = length text - i
 
 pub bytes_spec : {M : Type 1} → statement M

@@ -1,5 +1,4 @@
 use Prim.Native.Nat.{◌-◌}
-use native.Mathlib.Omega.{arith}
 use borrow.Author.Rules.{rules}
 use Rattle.text.proofs.Written.{below_some, leading_is, digit_below}
 use Rattle.text.proofs.put.leading.Statement.{statement}
@@ -7,13 +6,13 @@ use Rattle.text.proofs.put.leading.Tie as tie
 
 ruleset all = (rules, digit_below)
 
-div-glyph : tie.Need-nonzero-div-glyph
-div-glyph c = below_some (c.before.before.args.count - 1) c.before.before.requires.1
+div-glyph : tie.Need-nonzero_div-n
+div-glyph c = below_some (c.args.count - 1) c.requires.1
 
 returns : tie.Need-returns
 returns c =
-    let a = c.before.before.before.before.before.before.before.before.before.before.args in
-    leading_is a.n a.count a.below c.before.before.before.before.before.before.before.before.before.before.requires.0 c.before.before.before.before.before.before.before.before.before.before.requires.1 c.before.before.before.before.before.before.before.glyph.ensures c.before.before.before.before.before.before.byte.ensures c.before.before.digits.ensures
+    let a = c.args in
+    leading_is a.n a.count a.below c.requires.0 c.requires.1 c.glyph.ensures c.byte-next.ensures c.digits.ensures
 
 pub leading_spec : {M : Type 1} → statement M
 leading_spec =

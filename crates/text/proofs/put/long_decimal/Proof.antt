@@ -6,10 +6,10 @@ use Rattle.text.proofs.put.long_decimal.Tie as tie
 
 ruleset all = (rules, trim_begin, trim_more, trimmed, one_digit)
 
-abbrev invariant-loop : tie.invariant-loop
+abbrev invariant-loop : tie.invariant-loop-count
 invariant-loop out₀ at n count₀ below₀ out count below = (out ≡ out₀) × Trimming n count below
 
-abbrev decreases-loop : tie.decreases-loop
+abbrev decreases-loop : tie.decreases-loop-count
 decreases-loop out₀ at n count₀ below₀ out count below = count
 
 pub long_decimal_spec : {M : Type 1} → statement M

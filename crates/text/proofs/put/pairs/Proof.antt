@@ -9,10 +9,10 @@ use Rattle.text.proofs.put.pairs.Tie as tie
 
 ruleset all = (rules, begin, pairs_more, pairs_last)
 
-abbrev invariant-loop : tie.invariant-loop
+abbrev invariant-loop : tie.invariant-loop-i
 invariant-loop out₀ from list at₀ i₀ out at i = (i ≤ length list) × Left out₀ from (pairs_text list) out at (pairs_text (drop i list))
 
-abbrev decreases-loop : tie.decreases-loop
+abbrev decreases-loop : tie.decreases-loop-i
 decreases-loop out₀ from list at₀ i₀ out at i = length list - i
 
 pub pairs_spec : {M : Type 1} → statement M

@@ -9,10 +9,10 @@ use Rattle.text.proofs.put.spaced.Tie as tie
 
 ruleset all = (rules, begin, spaced_more, spaced_last)
 
-abbrev invariant-loop : tie.invariant-loop
+abbrev invariant-loop : tie.invariant-loop-i
 invariant-loop out₀ from list at₀ i₀ out at i = (i ≤ length list) × Left out₀ from (spaced_text list) out at (spaced_text (drop i list))
 
-abbrev decreases-loop : tie.decreases-loop
+abbrev decreases-loop : tie.decreases-loop-i
 decreases-loop out₀ from list at₀ i₀ out at i = length list - i
 
 pub spaced_spec : {M : Type 1} → statement M
