@@ -13,7 +13,6 @@ use Rattle.clausetext.specs.declared.judge.Went.TheVariants.{To, Nowhere}
 use Rattle.clausetext.specs.Syntax.{Term, Terms, nil, Literal, Role, role_name, Clause}
 use Rattle.clausetext.specs.Tokens.{Token, word, capital, mark}
 use Rattle.clausetext.specs.Grammar.{Applied, bare, applied, TermRule, upper, lower, Arguments, LiteralRule, positive, negated, Disjunction, Formula, plain, bracketed, cnf, clause, Clauses, none}
-use Rattle.clausetext.specs.Grammar
 use Rattle.clausetext.specs.Judging.{on_sign, on_ended, row, outside}
 use Rattle.clausetext.proofs.Apart.{false_not_true, true_not_false}
 
@@ -114,6 +113,7 @@ term_no_sign (lower a) = never (applied_first a)
 tilde_leads : {p : Bool} {l : Literal} {m : Mark} {ts us : List Token} {rs : List Role} (o : Went) → LiteralRule l (mark m ∷ ts) us → Rest (Ended zero p) us rs
     → Led ts rs (row m o Nowhere Nowhere Nowhere (To (Atom p)) Nowhere)
 unfolding row
+tilde_leads o (positive a) r = elim a [ ]
 tilde_leads o (negated a) r = atom a r
 
 pub sign_leads : {v : Want} {m : Mark} {ts : List Token} {rs : List Role} → Rest v (mark m ∷ ts) rs → Led ts rs (on_sign v m)
@@ -125,6 +125,7 @@ sign_leads (after_role r) = r
 sign_leads (formula (plain d) r) =
     let f = literal_split (literal d (without r)) in tilde_leads (To (NextLiteral true)) f.rule f.goes
 sign_leads (formula (bracketed d) r) = literal d (inside r)
+sign_leads (atom a _) = elim a [ ]
 sign_leads (literal d r) = let f = literal_split (literal d r) in tilde_leads Nowhere f.rule f.goes
 sign_leads (around (inside r)) = r
 sign_leads (around (without (closing r))) = r
@@ -312,6 +313,7 @@ ended_begun (comma r) = refl
 pub rest_over : {v : Want} {rs : List Role} → Rest v [] rs → (v ≡ NextClause) × (rs ≡ [])
 unfolding roles
 rest_over (clauses none) = (refl, refl)
+rest_over (clauses (Clauses.more c _)) = elim c [ ]
 rest_over (formula (plain d) r) = true_not_false (literal_begun (literal_split (literal d (without r))).rule)
 rest_over (literal d r) = true_not_false (literal_begun (literal_split (literal d r)).rule)
 rest_over (atom a r) = true_not_false (applied_begun a)

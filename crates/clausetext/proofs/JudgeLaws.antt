@@ -1,12 +1,9 @@
 -- The code of the judgement, one law for each outcome, with premises as the code has them.
 use mathlib.Core.Path.{◌≡◌, refl, sym, ap, ◌∙◌}
-use mathlib.Core.Bool.{Bool, true, false, cond}
-use mathlib.Core.Logic.{inl, inr}
+use mathlib.Core.Bool.{Bool, true, false}
 use lib.Dec.{eqb, ltb}
 use native.Mathlib.Numerals.{add-one}
 use borrow.Author.Tests.{eq-eqb, ne_eqb, eqb-false, ltb-true, ltb-false}
-use denote.Enum.Declared.{tag_of}
-use types.Run.{OneOf}
 use mathlib.Core.List.{List, [], ◌∷◌}
 use Prim.Native.Nat.{ℕ, zero, suc, ◌+◌, ◌-◌, ◌≤◌, ◌<◌}
 use mir.Syntax.{w64}
@@ -17,7 +14,6 @@ use lib.ListN.{length, get_or, get_or-eq_default}
 use Rattle.clausetext.specs.declared.kind.Mark.{Mark}
 use Rattle.clausetext.specs.declared.kind.Mark.TheVariants.{Open, Close, Comma, Bar, Tilde, Dot}
 use Rattle.clausetext.specs.declared.judge.Want.{Want}
-use Rattle.clausetext.specs.contracts.judge.Want.{the_type as wants}
 use Rattle.clausetext.specs.declared.judge.Want.TheVariants.{Clause, Opening, Name, AfterName, Role, AfterRole, Formula, Literal, Atom, Symbol, Term, Ended, Closing, Stop}
 use Rattle.clausetext.specs.declared.judge.Went.{Went}
 use Rattle.clausetext.specs.declared.judge.Went.TheVariants.{To, Nowhere}
@@ -32,7 +28,6 @@ use Rattle.clausetext.specs.declared.kind.Kind.TheVariants.{Blank, Percent, Lowe
 use Rattle.clausetext.specs.Kinds.{kind_of, goes_on}
 use Rattle.clausetext.specs.Judging.{words, owed_at, row, outside, on_ended, on_sign, Room, moved, signed, on_role, on_lower, on_upper, on_kind, on_byte, step_of, settled, may_end, finished}
 use Rattle.clausetext.proofs.Steps.{no_dot}
-use Rattle.clausetext.proofs.Apart.{false_not_true}
 
 -- the byte owed
 get_d_any : (l : List ℕ) (i a b : ℕ) → i < length l → get_or l i a ≡ get_or l i b
@@ -244,32 +239,13 @@ depth_grows {s} r {d} {p} e = record { fits = omega (arith, rw e at r.deep) }
 
 pub ruleset lower_laws = (depth_grows, lower_cnf, lower_clause, lower_name, lower_role, lower_formula, lower_literal, lower_atom, lower_term, lower_opening, lower_after_name, lower_after_role, lower_symbol, lower_ended, lower_closing, lower_stop)
 
--- what an arm knows of the case that it is not
-member : ℕ → List ℕ → Bool
-member x [] = false
-member x (k ∷ ks) = cond (eqb x k) true (member x ks)
-
-among : (ks : List ℕ) (x : ℕ) → OneOf ks x → member x ks ≡ true
-unfolding member
-among [] x h = absurd h
-among (k ∷ []) x e = rw (eq-eqb x k e)
-among (k ∷ l ∷ ks) x (inl e) = rw (eq-eqb x k e)
-among (k ∷ l ∷ ks) x (inr h) = later (eqb x k) (among (l ∷ ks) x h)
-  where
-    later : (b : Bool) {q : Bool} → q ≡ true → cond b true q ≡ true
-    later true e = refl
-    later false e = e
-
 -- an upper-case letter
 pub upper_term : (s : State) (v : Want) {r : Stepped} {d : ℕ} {p : Bool} → v ≡ Term d p → r ≡ moved s (Ended (d + 1) p) Word → r ≡ on_upper s v
 unfolding on_upper
 upper_term s v {d = d} e f = rw (e, ← add-one d) f
 
-abbrev but_term : List ℕ
-but_term = 0 ∷ 1 ∷ 2 ∷ 3 ∷ 4 ∷ 5 ∷ 6 ∷ 7 ∷ 8 ∷ 9 ∷ 11 ∷ 12 ∷ 13 ∷ []
-
-pub upper_none : (s : State) (v : Want) → OneOf but_term (tag_of wants v) → Stuck ≡ on_upper s v
-unfolding on_upper member
+pub upper_none : (s : State) (v : Want) → ((d : ℕ) (p : Bool) → v ≡ Term d p → ⊥) → Stuck ≡ on_upper s v
+unfolding on_upper
 upper_none s Clause h = refl
 upper_none s Opening h = refl
 upper_none s Name h = refl
@@ -280,7 +256,7 @@ upper_none s Formula h = refl
 upper_none s (Literal p) h = refl
 upper_none s (Atom p) h = refl
 upper_none s (Symbol d p) h = refl
-upper_none s (Term d p) h = false_not_true (among but_term 10 h)
+upper_none s (Term d p) h = absurd (h d p refl)
 upper_none s (Ended d p) h = refl
 upper_none s Closing h = refl
 upper_none s Stop h = refl
@@ -434,16 +410,13 @@ module _ (m : Mode) where
 
 pub ruleset whole_laws = (whole_between, whole_comment, whole_word, whole_owed)
 
-abbrev but_clause : List ℕ
-but_clause = 1 ∷ 2 ∷ 3 ∷ 4 ∷ 5 ∷ 6 ∷ 7 ∷ 8 ∷ 9 ∷ 10 ∷ 11 ∷ 12 ∷ 13 ∷ []
-
 pub end_clause : (v : Want) (m : Mode) → v ≡ Clause → {r : Bool} → r ≡ settled m → r ≡ may_end v m
 unfolding may_end
 end_clause v m e f = rw e f
 
-pub end_none : (v : Want) (m : Mode) → OneOf but_clause (tag_of wants v) → false ≡ may_end v m
-unfolding may_end member
-end_none Clause m h = false_not_true (among but_clause 0 h)
+pub end_none : (v : Want) (m : Mode) → (v ≡ Clause → ⊥) → false ≡ may_end v m
+unfolding may_end
+end_none Clause m h = absurd (h refl)
 end_none Opening m h = refl
 end_none Name m h = refl
 end_none AfterName m h = refl

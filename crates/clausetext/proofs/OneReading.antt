@@ -12,7 +12,6 @@ use Rattle.clausetext.specs.Kinds.{kind_of}
 use Rattle.clausetext.specs.Syntax.{Term, application, Terms, nil, ◌then◌, Literal, Role, Axiom, Hypothesis, NegatedConjecture, role_name, Clause}
 use Rattle.clausetext.specs.Tokens.{Token, word, capital, mark, word_ahead, Word, ends, goes, Spelt, nothing, blank, comment, sign, lower, upper, Remark, stops, closes, further}
 use Rattle.clausetext.specs.Grammar.{Applied, bare, applied, TermRule, Arguments, LiteralRule, positive, negated, Disjunction, Formula, plain, bracketed, cnf, ClauseRule, clause, Clauses, none}
-use Rattle.clausetext.specs.Grammar
 use Rattle.clausetext.specs.Texts.{Says}
 use Rattle.clausetext.proofs.Following.{applied_first, not_both, never}
 use Rattle.clausetext.proofs.Apart.{true_not_false}

@@ -5,10 +5,10 @@ use Prim.Native.Nat.{ℕ, ◌≤◌}
 use lib.ListN.{length}
 use Rattle.clausetext.specs.declared.judge.Verdict.{Verdict}
 use Rattle.clausetext.specs.declared.judge.Verdict.TheVariants.{Wrong, Fine}
-use Rattle.clausetext.specs.Texts.{Permitted, Verdicts, long, wrong, fine}
+use Rattle.clausetext.specs.Texts.{Permitted, long, wrong, fine}
 use Rattle.clausetext.specs.Judging.{judged}
 use Rattle.clausetext.specs.Promises
-use Rattle.clausetext.proofs.Judgement.{judged_verdict, only_verdict, short_judged, permitted_read, read_wrong, wrong_read, wrong_not_permitted, one_place, goes_on_in_bytes}
+use Rattle.clausetext.proofs.Judgement.{judged_verdict, only_verdict, short_judged, permitted_read, read_wrong, wrong_not_permitted, one_place, goes_on_in_bytes}
 use Rattle.clausetext.proofs.OneReading.{one_reading}
 
 pub long_text_refused : Promises.LongTextRefused

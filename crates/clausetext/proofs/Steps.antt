@@ -24,7 +24,7 @@ use Rattle.clausetext.specs.declared.judge.Verdict.{Verdict}
 use Rattle.clausetext.specs.declared.judge.Verdict.TheVariants.{Fine}
 use Rattle.clausetext.specs.Kinds.{kind_of, sign_kind, goes_on}
 use Rattle.clausetext.specs.Syntax.{Role, Axiom, Hypothesis, NegatedConjecture, role_name}
-use Rattle.clausetext.specs.Tokens.{Token, word, mark, word_ahead, Word, ends, goes, Spelt, blank, comment, sign, lower, upper, Remark, closes, further}
+use Rattle.clausetext.specs.Tokens.{Token, mark, word_ahead, Word, ends, goes, Spelt, blank, comment, sign, lower, upper, Remark, closes, further}
 use Rattle.clausetext.specs.Judging.{words, owed_at, signed, on_sign, on_role, on_lower, on_upper, on_kind, on_byte, step_of}
 use Rattle.clausetext.proofs.Following.{Rest, Led, sign_leads, Leading, sign_leading, BeforeWord, cnf_word, name_word, role_word, formula_word, literal_word_lem, atom_word, term_word, word_split, word_joined, BeforeCapital, variable_word_lem, capital_split, capital_joined}
 

@@ -1,14 +1,11 @@
 -- A text followed to where it cannot go on, one law for each outcome, with premises as the code has them.
 use mathlib.Core.Path.{◌≡◌, refl, sym, ◌∙◌}
-use mathlib.Core.Bool.{cond}
 use mathlib.Core.List.{List}
-use Prim.Native.Nat.{ℕ, suc, ◌+◌, ◌^◌, ◌≤◌, ◌<◌}
+use Prim.Native.Nat.{ℕ, ◌+◌, ◌^◌, ◌≤◌, ◌<◌}
 use native.Mathlib.Omega.{arith}
 use native.Mathlib.Numerals.{add-one}
-use lib.Dec.{eqb}
 use lib.ListN.{length, drop, get_or, drop_of_length-le}
 use borrow.Author.Tests.{eq-eqb, ne_eqb}
-use Rattle.clausetext.specs.declared.judge.Want.{Want}
 use Rattle.clausetext.specs.declared.judge.State.{State}
 use Rattle.clausetext.specs.declared.judge.Stepped.{Stepped}
 use Rattle.clausetext.specs.declared.judge.Stepped.TheVariants.{Next, Stuck}

@@ -6,7 +6,7 @@ use crate::kind;
 use crate::kind::{Kind, Mark};
 
 // What is wanted next. A bool tells that the disjunction stands in parentheses, a number in how many lists of arguments the place is.
-#[derive(Drop)]
+#[derive(Clone, Copy)]
 pub enum Want {
     // `cnf`, or the text's end
     Clause,
@@ -32,7 +32,7 @@ pub enum Want {
 }
 
 // Where a byte stands: between tokens, in a comment, in a name that may go on, in a word of which the bytes from a place of WORDS on are owed.
-#[derive(Drop)]
+#[derive(Clone, Copy)]
 pub enum Mode {
     Between,
     Comment,
@@ -40,7 +40,7 @@ pub enum Mode {
     Owed(usize),
 }
 
-#[derive(Drop)]
+#[derive(Clone, Copy)]
 pub struct State {
     pub want: Want,
     pub mode: Mode,
@@ -48,20 +48,20 @@ pub struct State {
     pub questions: usize,
 }
 
-#[derive(Drop)]
+#[derive(Clone, Copy)]
 pub enum Went {
     To(Want),
     Nowhere,
 }
 
-#[derive(Drop)]
+#[derive(Clone, Copy)]
 pub enum Stepped {
     Next(State),
     Stuck,
 }
 
 // The place where a text is wrong; the numbers of clauses and of questions in a permitted one.
-#[derive(Drop)]
+#[derive(Clone, Copy)]
 pub enum Verdict {
     Wrong(usize),
     Fine(usize, usize),

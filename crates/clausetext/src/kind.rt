@@ -3,7 +3,7 @@ ghost use Rattle.std.specs.Prelude.{◌≡◌, ◌&&◌, leb};
 ghost use Rattle.clausetext.specs.Kinds.{letter_kind, sign_kind, kind_of, goes_on};
 
 // The signs of the text.
-#[derive(Drop)]
+#[derive(Clone, Copy)]
 pub enum Mark {
     Open,
     Close,
@@ -14,7 +14,7 @@ pub enum Mark {
 }
 
 // A byte by its part in tokens, blanks and comments.
-#[derive(Drop)]
+#[derive(Clone, Copy)]
 pub enum Kind {
     Blank,
     Percent,

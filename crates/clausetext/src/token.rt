@@ -6,7 +6,7 @@ use crate::kind;
 use crate::kind::{Kind, Mark};
 
 // A token and its place: the bytes of a word that begins lower-case or upper-case, a sign and where the text goes on, no token more.
-#[derive(Drop)]
+#[derive(Clone, Copy)]
 pub enum Lexeme {
     Word(usize, usize),
     Capital(usize, usize),

@@ -1,13 +1,13 @@
 -- Numbering the words of a kind, with premises as the code has them.
 use mathlib.Core.Bool.{Bool, true, false, cond}
-use mathlib.Core.List.{List, [], ◌∷◌, ◌++◌, append-nil, map}
+use mathlib.Core.List.{List, [], ◌∷◌, ◌++◌, append-nil}
 use mathlib.Core.Path.{◌≡◌, refl, sym, ap, ◌∙◌}
-use Prim.Native.Nat.{ℕ, zero, suc, ◌+◌, ◌-◌, ◌*◌, ◌/◌, ◌%◌, ◌^◌, ◌≤◌, ◌<◌}
+use Prim.Native.Nat.{ℕ, suc, ◌+◌, ◌≤◌, ◌<◌}
 use native.Mathlib.Numerals.{add-one}
 use native.Mathlib.Omega.{arith}
 use borrow.Author.Tests.{eqb-true, eq-eqb, ne_eqb, leb-true, leb-false}
 use lib.Dec.{eqb, leb}
-use lib.ListN.{length, take, drop, get_or, set, replicate, length-append, length-set, length-replicate, get_or-replicate, drop_of_length-le, length-map, get_or-map}
+use lib.ListN.{length, take, drop, get_or, set, length-append, length-set, drop_of_length-le, length-map, get_or-map}
 use lib.Seq.{drop-cons, take-suc, take-suc-set, drop-set-lt, take_all, append_snoc}
 use Rattle.words.specs.Fields.{kind_of}
 use Rattle.names.specs.Numbers.{Name, same_name, noted, known_after, first_uses, number_in}

@@ -1,15 +1,14 @@
 -- Names known, looked through one by one, and noted, with premises as the code has them.
-use mathlib.Core.Bool.{Bool, true, false, cond, ◌&&◌}
-use mathlib.Core.List.{List, [], ◌∷◌, ◌++◌, map, map-append}
+use mathlib.Core.Bool.{Bool, true, false}
+use mathlib.Core.List.{List, [], ◌∷◌, ◌++◌, map-append}
 use mathlib.Core.Path.{◌≡◌, refl, sym, ap, ◌∙◌}
-use Prim.Native.Nat.{ℕ, zero, suc, ◌+◌, ◌-◌, ◌≤◌, ◌<◌}
+use Prim.Native.Nat.{ℕ, suc, ◌+◌, ◌≤◌, ◌<◌}
 use native.Mathlib.Numerals.{add-one}
 use native.Mathlib.Omega.{arith}
-use borrow.Author.Tests.{eqb-true, eq-eqb, ne_eqb}
-use lib.Dec.{eqb}
+use borrow.Author.Tests.{eq-eqb, ne_eqb}
 use lib.ListN.{length, take, drop, get_or, set, length-set, length-map, drop_of_length-le}
 use lib.Seq.{take-suc-set, length-take-le, drop-cons, get_or-take}
-use Rattle.names.specs.Numbers.{Name, same_name, noted, number_in}
+use Rattle.names.specs.Numbers.{same_name, number_in}
 use Rattle.names.specs.Noting.{name_at, names_at}
 use Rattle.names.specs.Known.{grown, known_at, Noted}
 use Rattle.names.proofs.Notes.{number_within, noted_known, noted_new}

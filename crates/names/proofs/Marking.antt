@@ -7,9 +7,9 @@ use native.Mathlib.Numerals.{add-one}
 use native.Mathlib.Omega.{arith}
 use borrow.Author.Tests.{eqb-true, eqb-false, eq-eqb, ne_eqb, leb-true, leb-false, not-true, not-false}
 use lib.Dec.{eqb, leb}
-use lib.ListN.{length, get_or, set, length-set, length-append}
+use lib.ListN.{length, get_or, set, length-append}
 use lib.Seq.{append_snoc, get_or-set_same, get_or-set_other}
-use Rattle.names.specs.Numbers.{Name, noted, number_in}
+use Rattle.names.specs.Numbers.{Name, number_in}
 use Rattle.names.specs.Noting.{name_byte, name_at}
 use Rattle.names.specs.Tree.{spelt, mark_at, Tree, Grown, Onward, Entered}
 use Rattle.names.specs.Marks.{Marks, Marked, Used}

@@ -1,12 +1,12 @@
 -- The same name, and where a name ends, with premises as the code has them.
 use mathlib.Core.Bool.{Bool, true, false, not}
 use mathlib.Core.List.{List, [], ◌∷◌}
-use mathlib.Core.Path.{◌≡◌, refl, sym, ap, ◌∙◌}
-use Prim.Native.Nat.{ℕ, zero, suc, ◌+◌, ◌-◌, ◌≤◌, ◌<◌}
+use mathlib.Core.Path.{◌≡◌, refl, sym, ◌∙◌}
+use Prim.Native.Nat.{ℕ, suc, ◌+◌, ◌-◌, ◌≤◌, ◌<◌}
 use native.Mathlib.Numerals.{add-one}
 use native.Mathlib.Omega.{arith}
 use borrow.Author.Tests.{eq-eqb, ne_eqb, not-true, not-false}
-use lib.ListN.{length, drop, get_or, drop_of_length-le}
+use lib.ListN.{length, get_or, drop_of_length-le}
 use lib.Seq.{drop-cons}
 use Rattle.names.specs.Numbers.{Name, same_name}
 use Rattle.names.specs.Noting.{name_byte, name_from, name_at}

@@ -8,10 +8,10 @@ use native.Mathlib.Numerals.{add-one}
 use native.Mathlib.Omega.{arith}
 use borrow.Author.Tests.{eqb-true, eqb-false, eq-eqb, ne_eqb, leb-true, leb-false}
 use lib.Dec.{eqb, leb}
-use lib.ListN.{length, get_or, set, length-set, length-append}
+use lib.ListN.{length, get_or, set, length-set}
 use lib.Seq.{get_or-set_same, get_or-set_other}
 use Rattle.names.specs.Numbers.{Name}
-use Rattle.names.specs.Tree.{spelt, latest, before_at, head_at, mark_at, Tree, Found, Grown, Onward}
+use Rattle.names.specs.Tree.{spelt, latest, before_at, head_at, Tree, Found, Onward}
 
 -- the latest key of a stem
 module _ (keys : List ℕ) (stem : ℕ) where

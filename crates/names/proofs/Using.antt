@@ -1,13 +1,13 @@
 -- The names of a kind numbered by a tree, with premises as the code has them.
-use mathlib.Core.Bool.{Bool, true, false, cond}
-use mathlib.Core.List.{List, [], ◌∷◌, ◌++◌}
+use mathlib.Core.Bool.{Bool, true, false}
+use mathlib.Core.List.{List, [], ◌∷◌}
 use mathlib.Core.Path.{◌≡◌, refl, sym, ap, ◌∙◌}
 use Prim.Native.Nat.{ℕ, zero, suc, ◌+◌, ◌-◌, ◌≤◌, ◌<◌}
 use native.Mathlib.Numerals.{add-one}
 use native.Mathlib.Omega.{arith}
-use borrow.Author.Tests.{eqb-true, eq-eqb, ne_eqb, leb-true, leb-false}
-use lib.Dec.{eqb, leb}
-use lib.ListN.{length, drop, get_or, set, replicate, length-append, length-replicate, get_or-replicate, drop_of_length-le}
+use borrow.Author.Tests.{eq-eqb, ne_eqb, leb-true, leb-false}
+use lib.Dec.{leb}
+use lib.ListN.{length, drop, get_or, set, replicate, length-append, length-replicate, drop_of_length-le}
 use lib.Seq.{drop-cons, drop-set-lt}
 use Rattle.words.specs.Fields.{kind_of}
 use Rattle.names.specs.Numbers.{Name, noted, number_in}

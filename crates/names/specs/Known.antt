@@ -1,5 +1,5 @@
 -- The names that are known, by the places of their first uses, and looked through one by one: machinery.
-use Rattle.std.specs.Prelude.{cond, List, ◌≡◌, ℕ, ◌+◌, ◌≤◌, eqb, length, take}
+use Rattle.std.specs.Prelude.{cond, List, ◌≡◌, ℕ, ◌+◌, eqb, length, take}
 use Rattle.names.specs.Numbers.{Name, noted, number_in}
 use Rattle.names.specs.Noting.{name_at, names_at}
 

@@ -1,5 +1,5 @@
 -- Names that stand in a text, and the words that get their numbers: machinery.
-use Rattle.std.specs.Prelude.{Bool, cond, List, [], ◌∷◌, map, ◌≡◌, ℕ, zero, suc, ◌+◌, ◌%◌, ◌≤◌, ◌<◌, eqb, length, take, drop, get_or}
+use Rattle.std.specs.Prelude.{Bool, cond, List, [], ◌∷◌, map, ◌≡◌, ℕ, ◌+◌, ◌≤◌, ◌<◌, eqb, length, drop}
 use Rattle.words.specs.Fields.{kind_of}
 use Rattle.clausetext.specs.Kinds.{kind_of as byteKind, goes_on}
 use Rattle.names.specs.Numbers.{Name, noted, first_uses, number_in}

@@ -1,18 +1,18 @@
 -- One item more in memory, with premises as the code has them.
 use mathlib.Core.Bool.{Bool, true, false}
 use mathlib.Core.List.{List, [], ◌∷◌, ◌++◌}
-use mathlib.Core.Path.{◌≡◌, refl, sym, ap, ap₂, ◌∙◌}
-use Prim.Native.Nat.{ℕ, zero, suc, ◌+◌, ◌-◌, ◌*◌, ◌/◌, ◌%◌, ◌≤◌, ◌<◌}
+use mathlib.Core.Path.{◌≡◌, refl, ap, ◌∙◌}
+use Prim.Native.Nat.{ℕ, suc, ◌+◌, ◌*◌, ◌/◌, ◌%◌, ◌≤◌, ◌<◌}
 use native.Mathlib.Numerals.{add-one}
 use native.Mathlib.Omega.{arith}
 use borrow.Author.Tests.{eqb-true, eqb-false}
 use lib.Dec.{eqb}
-use lib.ListN.{length, take, get_or, set, length-take, length-set}
+use lib.ListN.{length, take, get_or, set, length-set}
 use lib.Seq.{take-suc-set, get_or-set_same, get_or-set_other, length-take-le}
 use Rattle.names.specs.Noting.{name_at}
 use Rattle.tptp.specs.declared.sketch.Progress.{Progress}
-use Rattle.tptp.specs.Sketch.{Item, lone, Gathering, part_added}
-use Rattle.tptp.specs.Memory.{item_of, items_of, inner_of, sketch_of, Small, PartAdded, Ready, Further, adding}
+use Rattle.tptp.specs.Sketch.{Item, lone}
+use Rattle.tptp.specs.Memory.{item_of, items_of, inner_of, Small, PartAdded, Ready, Further, adding}
 
 items_snoc : (text ms ps : List ℕ) (m p : ℕ) → length ms ≡ length ps → items_of text (ms ++ (m ∷ [])) (ps ++ (p ∷ [])) ≡ items_of text ms ps ++ (item_of text m p ∷ [])
 unfolding items_of

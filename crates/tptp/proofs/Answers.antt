@@ -1,16 +1,15 @@
 -- A text with one question: its table's words from those of its clauses in the order of the text, where the question stands, and whether it is denied.
-use mathlib.Core.Bool.{Bool, true, false, cond}
-use mathlib.Core.List.{List, [], ◌∷◌, ◌++◌, append_assoc, append-nil}
+use mathlib.Core.Bool.{Bool, true, false}
+use mathlib.Core.List.{List, [], ◌∷◌, ◌++◌, append_assoc}
 use mathlib.Core.Path.{◌≡◌, refl, sym, ap, ap₂, subst, ◌∙◌}
 use Prim.Native.Nat.{ℕ, zero, suc, ◌+◌, ◌-◌, ◌≤◌, ◌<◌}
 use native.Mathlib.Omega.{arith}
 use borrow.Author.Tests.{le-leb}
-use lib.Dec.{leb}
 use lib.ListN.{length, take, drop, length-append, length-drop}
 use lib.Seq.{take_at, drop_at, drop-append-add}
 use Rattle.words.specs.Fingerprint.{fingerprint}
 use Rattle.names.specs.Numbers.{Name}
-use Rattle.table.specs.Syntax.{Table, all_clauses}
+use Rattle.table.specs.Syntax.{all_clauses}
 use Rattle.table.specs.Syntax.{Literal as LiteralSaid, Clause as ClauseSaid}
 use Rattle.table.specs.Encode.{clause_words, clauses_words, body_words, file_words}
 use Rattle.table.specs.Limits.{Each, ClauseWithin, Within}
@@ -19,10 +18,10 @@ use Rattle.table.proofs.Building.{clauses_snoc, sealed_file}
 use Rattle.clausetext.specs.Syntax.{Term, variable, application, Terms, nil, ◌then◌, Literal, Role, Axiom, Hypothesis, NegatedConjecture, Clause, question}
 use Rattle.clausetext.specs.Texts.{questions}
 use Rattle.tptp.specs.Said.{predicates, functions, variables, literal_said, literals_said, clause_said, clauses_said, stated, asked, table_said}
-use Rattle.tptp.specs.Sketch.{Item, many, term_items, terms_items, literal_sort, literal_items, literals_items, clause_sort, clause_items, clauses_items}
+use Rattle.tptp.specs.Sketch.{Item, term_items, terms_items, literal_sort, literal_items, literals_items, clause_sort, clause_items, clauses_items}
 use Rattle.tptp.specs.Memory.{items_of}
 use Rattle.tptp.specs.Body.{bodies, ClauseFits, part, moved_last, ahead}
-use Rattle.tptp.specs.Reads.{Fits, Denied}
+use Rattle.tptp.specs.Reads.{Denied}
 use Rattle.tptp.proofs.Ahead.{item_ahead, ahead_items, Before, ahead_past, ahead_all}
 use Rattle.tptp.proofs.Trees.{each_front, each_rest, each_both}
 use Rattle.tptp.proofs.Splits.{clause_long, clauses_long, words_append, said_append, said_long, bodies_append, bodies_long, items_append, stated_append, stated_all, asked_append, Split}

@@ -1,8 +1,8 @@
 -- The public call, with premises as the code has them.
 use mathlib.Core.Bool.{Bool, true, false}
-use mathlib.Core.List.{List, [], ◌∷◌, ◌++◌}
-use mathlib.Core.Path.{◌≡◌, refl, sym, ap, subst, ◌∙◌}
-use Prim.Native.Nat.{ℕ, zero, suc, ◌+◌, ◌-◌, ◌*◌, ◌≤◌, ◌<◌}
+use mathlib.Core.List.{List}
+use mathlib.Core.Path.{◌≡◌, refl, sym, ap, ◌∙◌}
+use Prim.Native.Nat.{ℕ, ◌+◌, ◌-◌, ◌*◌, ◌≤◌, ◌<◌}
 use native.Mathlib.Omega.{arith}
 use lib.ListN.{length, take, drop, replicate, get_or, length-replicate, get_or-replicate, get_or-eq_default}
 use lib.Seq.{length-take-le}
@@ -19,11 +19,11 @@ use Rattle.clausetext.specs.Texts.{Says, Permitted, questions, Verdicts, long, w
 use Rattle.clausetext.proofs.Judgement.{judged_verdict}
 use Rattle.clausetext.proofs.OneReading.{one_reading}
 use Rattle.tptp.specs.Said.{predicates, functions, clauses_said, table_said}
-use Rattle.tptp.specs.Sketch.{Item, literals_items, clauses_items}
-use Rattle.tptp.specs.Memory.{items_of, Small, Empty, Gathered}
+use Rattle.tptp.specs.Sketch.{Item, clauses_items}
+use Rattle.tptp.specs.Memory.{Empty, Gathered}
 use Rattle.tptp.specs.Body.{bodies}
 use Rattle.tptp.specs.declared.TextRead.{TextRead}
-use Rattle.tptp.specs.Reads.{refused, Answered, unasked, over, Reads}
+use Rattle.tptp.specs.Reads.{refused, unasked, over, Reads}
 use Rattle.tptp.specs.Inside.{Askable, Asked, Gatherable}
 use Rattle.tptp.specs.Reads.{Fits as FitsFile}
 use Rattle.tptp.proofs.Adding.{items_long}

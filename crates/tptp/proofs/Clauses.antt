@@ -1,20 +1,19 @@
 -- The clauses completed one by one, with premises as the code has them.
-use mathlib.Core.Bool.{Bool, true, false, cond}
+use mathlib.Core.Bool.{Bool, true, false}
 use mathlib.Core.List.{List, [], ◌∷◌, ◌++◌, append_assoc, append-nil, map, map-append}
-use mathlib.Core.Path.{◌≡◌, refl, sym, ap, ap₂, subst, ◌∙◌}
+use mathlib.Core.Path.{◌≡◌, refl, sym, ap, subst, ◌∙◌}
 use Prim.Native.Nat.{ℕ, zero, suc, ◌+◌, ◌-◌, ◌*◌, ◌^◌, ◌≤◌, ◌<◌}
 use native.Mathlib.Numerals.{add-one}
 use native.Mathlib.Omega.{arith}
-use borrow.Author.Tests.{ne_eqb, eq-eqb}
-use lib.Dec.{eqb}
-use lib.ListN.{length, take, drop, get_or, set, length-append, length-map, length-take, length-drop, length-set, drop_of_length-le, take-append-drop}
-use lib.Seq.{drop-cons, drop-drop, drop_at, set_at, take-suc, take_at, take_all, length-take-le, set-append_seam, take-append_seam}
+use borrow.Author.Tests.{ne_eqb}
+use lib.ListN.{length, take, drop, get_or, set, length-append, length-map, length-drop, length-set, drop_of_length-le}
+use lib.Seq.{drop-cons, drop-drop, drop_at, set_at, take-suc, take_at, take_all, length-take-le}
 use Rattle.words.specs.Fields.{kind_of, clause_word}
 use Rattle.words.proofs.Packed.{clause_kind}
-use Rattle.names.specs.Numbers.{Name, first_uses, number_in}
+use Rattle.names.specs.Numbers.{Name}
 use Rattle.names.specs.Noting.{name_at, names_at}
 use Rattle.table.specs.Encode.{clause_words, clauses_words, literals_words}
-use Rattle.table.specs.Limits.{Each, ClauseWithin}
+use Rattle.table.specs.Limits.{Each}
 use Rattle.clausetext.specs.Syntax.{Term, variable, application, Terms, nil, ◌then◌, Literal, Role, role_name, Clause}
 use Rattle.clausetext.specs.Tokens.{Token}
 use Rattle.clausetext.specs.Grammar.{Disjunction, Formula, plain, bracketed, ClauseRule, clause, none}

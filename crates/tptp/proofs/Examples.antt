@@ -5,10 +5,10 @@ use mathlib.Core.Path.{◌≡◌, refl}
 use Prim.Native.Nat.{ℕ}
 use native.Mathlib.Bridge.{le_by_compare, IsLe}
 use native.Mathlib.Omega.{arith}
-use lib.ListN.{length, replicate}
+use lib.ListN.{replicate}
 use Rattle.words.specs.Fingerprint.{fingerprint}
 use Rattle.names.specs.Numbers.{same_name, noted, known_after, number_in}
-use Rattle.clausetext.specs.Syntax.{Term, variable, application, Terms, nil, ◌then◌, Literal, Role, Axiom, Hypothesis, NegatedConjecture, Clause, ascii}
+use Rattle.clausetext.specs.Syntax.{Term, variable, application, nil, ◌then◌, Axiom, NegatedConjecture, Clause, ascii}
 use Rattle.clausetext.specs.Texts.{questions}
 use Rattle.clausetext.proofs.Examples.{one_said}
 use Rattle.table.specs.Syntax.{arity, all_clauses}

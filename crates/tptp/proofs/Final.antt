@@ -2,13 +2,13 @@
 use mathlib.Core.Bool.{Bool, true, false, cond}
 use mathlib.Core.List.{List, [], ◌∷◌, ◌++◌}
 use mathlib.Core.Path.{◌≡◌, refl, sym, ap, ap₂, ◌∙◌}
-use Prim.Native.Nat.{ℕ, zero, suc, ◌+◌, ◌≤◌, ◌<◌}
+use Prim.Native.Nat.{ℕ, suc, ◌+◌, ◌≤◌, ◌<◌}
 use native.Mathlib.Omega.{arith}
 use borrow.Author.Tests.{leb-true, leb-false}
 use lib.Dec.{eqb, leb}
 use lib.ListN.{length, length-append}
 use Rattle.words.specs.Fields.{kind_of}
-use Rattle.names.specs.Numbers.{Name, noted, known_after, first_uses, number_in}
+use Rattle.names.specs.Numbers.{Name, noted, known_after, number_in}
 use Rattle.names.specs.Noting.{uses_of, numbered}
 use Rattle.names.proofs.Notes.{number_within, noted_known, noted_new, number_stays, number_new}
 use Rattle.table.specs.Limits.{Each}

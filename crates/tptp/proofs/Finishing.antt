@@ -1,25 +1,23 @@
 -- The file of a text with one question, with premises as the code has them.
 use mathlib.Core.Bool.{Bool, true, false}
-use mathlib.Core.List.{List, [], ◌∷◌, ◌++◌}
-use mathlib.Core.Path.{◌≡◌, refl, sym, ap, subst, ◌∙◌}
-use Prim.Native.Nat.{ℕ, zero, suc, ◌+◌, ◌-◌, ◌≤◌, ◌<◌}
+use mathlib.Core.List.{List}
+use mathlib.Core.Path.{◌≡◌, sym, ap, subst, ◌∙◌}
+use Prim.Native.Nat.{ℕ, ◌+◌, ◌-◌}
 use native.Mathlib.Omega.{arith}
 use borrow.Author.Tests.{not-true, not-false}
-use lib.ListN.{length, take, drop}
-use mir.Syntax.{w32, w64}
+use lib.ListN.{length, drop}
+use mir.Syntax.{w64}
 use mir.Val.{Fits}
 use Rattle.table.specs.Build.{at_front, sealed}
 use Rattle.table.specs.Encode.{clauses_words, file_words}
 use Rattle.table.specs.Limits.{Each}
 use Rattle.clausetext.specs.Syntax.{Clause}
-use Rattle.clausetext.specs.Texts.{Says, questions}
 use Rattle.clausetext.proofs.OneReading.{one_reading}
 use Rattle.tptp.specs.Said.{predicates, functions, clauses_said, table_said}
 use Rattle.tptp.specs.Sketch.{literals_items, clauses_items}
-use Rattle.tptp.specs.Memory.{items_of}
-use Rattle.tptp.specs.Body.{bodies, Held, ClauseFits, Completed, ahead, moved_last, Parted}
+use Rattle.tptp.specs.Body.{bodies, ClauseFits, Completed, ahead, moved_last, Parted}
 use Rattle.tptp.specs.declared.TextRead.{TextRead}
-use Rattle.tptp.specs.Reads.{refused, Denied, Answered, over, positive, read, Reads, fine}
+use Rattle.tptp.specs.Reads.{refused, over, positive, read, Reads, fine}
 use Rattle.tptp.specs.Inside.{Askable}
 use Rattle.tptp.specs.Reads.{Fits as FitsFile}
 use Rattle.tptp.proofs.Splits.{Split, split}

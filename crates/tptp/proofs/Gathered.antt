@@ -1,17 +1,17 @@
 -- The tokens of clauses gather their items.
-use mathlib.Core.Bool.{Bool, true, false, cond}
+use mathlib.Core.Bool.{Bool, true, false}
 use mathlib.Core.List.{List, [], ◌∷◌, ◌++◌, append_assoc, append-nil}
-use mathlib.Core.Path.{◌≡◌, refl, sym, ap, ◌∙◌}
-use Prim.Native.Nat.{ℕ, zero, suc, ◌+◌, ◌-◌}
+use mathlib.Core.Path.{◌≡◌, refl, ap, ◌∙◌}
+use Prim.Native.Nat.{ℕ, suc, ◌+◌, ◌-◌}
 use native.Mathlib.Omega.{arith}
 use lib.Dec.{leb}
 use lib.ListN.{length, length-append}
 use Rattle.names.specs.Numbers.{Name}
-use Rattle.clausetext.specs.declared.kind.Mark.TheVariants.{Open, Close, Comma, Bar, Tilde, Dot}
-use Rattle.clausetext.specs.Syntax.{Term, variable, application, Terms, nil, ◌then◌, Literal, Role, Axiom, Hypothesis, NegatedConjecture, role_name, Clause}
-use Rattle.clausetext.specs.Tokens.{Token, word, capital, mark}
+use Rattle.clausetext.specs.declared.kind.Mark.TheVariants.{Close}
+use Rattle.clausetext.specs.Syntax.{Term, Terms, Literal, Role, Axiom, Hypothesis, NegatedConjecture, role_name, Clause}
+use Rattle.clausetext.specs.Tokens.{Token, mark}
 use Rattle.clausetext.specs.Grammar.{Applied, bare, applied, TermRule, upper, lower, Arguments, LiteralRule, positive, negated, Disjunction, Formula, plain, bracketed, ClauseRule, clause, Clauses, none}
-use Rattle.tptp.specs.Sketch.{Item, many, term_items, terms_items, literal_sort, literal_items, literals_items, clause_sort, clause_items, clauses_items, Gathering, with_part, lone, name_sort, role_sort, on_word, on_capital, on_mark, on_token, gather, start}
+use Rattle.tptp.specs.Sketch.{Item, many, term_items, terms_items, literal_items, literals_items, clause_sort, clause_items, clauses_items, Gathering, with_part, lone, name_sort, role_sort, on_word, on_capital, on_mark, on_token, gather}
 
 abbrev partly : Item → ℕ → Item
 partly i n = record { sort = i.sort; parts = i.parts + n; name = i.name }

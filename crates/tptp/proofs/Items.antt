@@ -1,20 +1,19 @@
 -- The items of clauses: their names by kind are the uses of names, and their words with numbers are the words of the clauses said.
 use mathlib.Core.Bool.{Bool, true, false, cond, ◌&&◌}
-use mathlib.Core.List.{List, [], ◌∷◌, ◌++◌, append_assoc, append-nil}
+use mathlib.Core.List.{List, [], ◌∷◌, ◌++◌}
 use mathlib.Core.Path.{◌≡◌, refl, sym, ap, ap₂, ◌∙◌}
-use Prim.Native.Nat.{ℕ, zero, suc, ◌+◌, ◌-◌, ◌*◌, ◌/◌, ◌%◌, ◌^◌, ◌≤◌, ◌<◌}
+use Prim.Native.Nat.{ℕ, ◌/◌, ◌%◌}
 use native.Mathlib.Omega.{arith}
-use borrow.Author.Tests.{eqb-true, eqb-false, eq-eqb, ne_eqb, leb-true}
-use lib.Dec.{eqb, leb}
-use lib.ListN.{length, length-append}
-use Rattle.words.specs.Fields.{kind_of, variable_word, function_word, literal_word, clause_word}
-use Rattle.names.specs.Numbers.{Name, first_uses, number_in}
+use lib.Dec.{eqb}
+use lib.ListN.{length}
+use Rattle.words.specs.Fields.{kind_of}
+use Rattle.names.specs.Numbers.{Name}
 use Rattle.names.specs.Noting.{uses_of, names_at}
 use Rattle.table.specs.Limits.{Each}
 use Rattle.clausetext.specs.Syntax.{Term, variable, application, Terms, nil, ◌then◌, Literal, Role, Axiom, Hypothesis, NegatedConjecture, Clause}
 use Rattle.tptp.specs.Said.{functions_of, functions_in, variables_of, variables_in, predicate_uses, function_uses, variable_uses, of_all}
-use Rattle.tptp.specs.Sketch.{Item, many, term_items, terms_items, literal_sort, literal_items, literals_items, clause_sort, clause_items, clauses_items}
-use Rattle.tptp.specs.Memory.{item_of, items_of}
+use Rattle.tptp.specs.Sketch.{Item, term_items, terms_items, literal_sort, literal_items, literals_items, clause_sort, clause_items, clauses_items}
+use Rattle.tptp.specs.Memory.{items_of}
 use Rattle.tptp.specs.Shapes.{sort_kind, shape_by, fits_by, shapes, all_fit}
 use Rattle.tptp.specs.Body.{item_names, Fit}
 

@@ -1,24 +1,22 @@
 -- The words of a text's clauses made from its items, with premises as the code has them.
-use mathlib.Core.Bool.{Bool, true, false, cond}
-use mathlib.Core.List.{List, [], ◌∷◌, ◌++◌, map}
-use mathlib.Core.Path.{◌≡◌, refl, sym, ap, ap₂, subst, ◌∙◌}
-use Prim.Native.Nat.{ℕ, zero, suc, ◌+◌, ◌≤◌, ◌<◌}
+use mathlib.Core.Bool.{Bool, true, false}
+use mathlib.Core.List.{List, [], ◌∷◌, map}
+use mathlib.Core.Path.{◌≡◌, refl, sym, ap, ◌∙◌}
+use Prim.Native.Nat.{ℕ, suc, ◌≤◌, ◌<◌}
 use native.Mathlib.Omega.{arith}
 use borrow.Author.Tests.{le-leb, not-true, not-false}
-use lib.Dec.{leb}
 use lib.ListN.{length}
 use Rattle.names.specs.Numbers.{Name, first_uses, number_in}
-use Rattle.names.specs.Noting.{names_at, uses_of, numbered, Numbering}
-use Rattle.table.specs.Limits.{Each, ClauseWithin}
-use Rattle.clausetext.specs.Syntax.{Literal, Role, Axiom, Hypothesis, NegatedConjecture, role_name, Clause}
+use Rattle.names.specs.Noting.{names_at, uses_of, Numbering}
+use Rattle.table.specs.Limits.{Each}
+use Rattle.clausetext.specs.Syntax.{Literal, Role, Axiom, Hypothesis, NegatedConjecture, Clause}
 use Rattle.clausetext.specs.Texts.{Says}
 use Rattle.tptp.specs.Said.{predicates, functions, variables, predicate_uses, function_uses, of_all, literals_said, clause_said}
 use Rattle.tptp.specs.Sketch.{Item, literals_items, clause_sort, clause_items, clauses_items}
-use Rattle.tptp.specs.Memory.{items_of}
-use Rattle.tptp.specs.Shapes.{sort_kind, fits_by, shapes, all_fit, Shaped}
-use Rattle.tptp.specs.Body.{item_names, Fit, bare, with_function, with_predicate, Under, Below, Held, Numbered, ClauseFits, Completed}
-use Rattle.tptp.proofs.Final.{zipped, numbered_all, each_mapped, used_below, uses_few}
-use Rattle.tptp.proofs.Items.{item_shapes, names_are, shapes_are, all_fit_lem, fit_all, names_of_kind, clauses_functions, clauses_predicates, Kinds, uses_are}
+use Rattle.tptp.specs.Shapes.{fits_by, all_fit, Shaped}
+use Rattle.tptp.specs.Body.{item_names, Fit, bare, with_function, Below, Held, Numbered, ClauseFits, Completed}
+use Rattle.tptp.proofs.Final.{numbered_all, each_mapped, used_below, uses_few}
+use Rattle.tptp.proofs.Items.{item_shapes, names_are, shapes_are, all_fit_lem, fit_all, clauses_functions, clauses_predicates, uses_are}
 use Rattle.tptp.proofs.Stages.{shapes_mapped, zipped_mapped, under_each, kinds_bare, kinds_functions}
 use Rattle.tptp.proofs.Trees.{each_both, within_fit, within_functions, within_predicates}
 

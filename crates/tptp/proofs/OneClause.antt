@@ -1,25 +1,23 @@
 -- One clause: the words of its items completed are the words of the clause said, within document 01's limits or over them.
-use mathlib.Core.Bool.{Bool, true, false, cond}
-use mathlib.Core.List.{List, [], ◌∷◌, ◌++◌, map}
-use mathlib.Core.Path.{◌≡◌, refl, sym, ap, ap₂, ◌∙◌}
-use Prim.Native.Nat.{ℕ, zero, suc, ◌+◌, ◌*◌, ◌^◌, ◌≤◌, ◌<◌}
+use mathlib.Core.Bool.{false}
+use mathlib.Core.List.{List, [], ◌∷◌, map}
+use mathlib.Core.Path.{◌≡◌, refl, sym, ap, ◌∙◌}
+use Prim.Native.Nat.{ℕ, suc, ◌+◌, ◌*◌, ◌^◌, ◌≤◌, ◌<◌}
 use native.Mathlib.Omega.{arith}
-use borrow.Author.Tests.{leb-true}
 use lib.ListN.{length, length-map}
 use Rattle.words.specs.Fields.{kind_of, clause_word}
 use Rattle.words.proofs.Packed.{clause_kind}
-use Rattle.names.specs.Numbers.{Name, first_uses, number_in}
+use Rattle.names.specs.Numbers.{Name, first_uses}
 use Rattle.names.specs.Noting.{uses_of, numbered}
 use Rattle.table.specs.Encode.{literals_words, clause_words}
-use Rattle.table.specs.Limits.{Each, LiteralWithin, ClauseWithin}
-use Rattle.clausetext.specs.Syntax.{Literal, Role, Axiom, Hypothesis, NegatedConjecture, role_name, Clause}
+use Rattle.table.specs.Limits.{ClauseWithin}
+use Rattle.clausetext.specs.Syntax.{Literal, Role, Axiom, Hypothesis, NegatedConjecture, role_name}
 use Rattle.tptp.specs.Said.{variables, variable_uses, literals_said, clause_said}
-use Rattle.tptp.specs.Sketch.{Item, literals_items, clause_sort}
-use Rattle.tptp.specs.Shapes.{shape_by, fits_by}
-use Rattle.tptp.specs.Body.{item_names, Fit, with_predicate, Under, Below}
-use Rattle.tptp.proofs.Shaping.{few_parts}
+use Rattle.tptp.specs.Sketch.{literals_items, clause_sort}
+use Rattle.tptp.specs.Shapes.{shape_by}
+use Rattle.tptp.specs.Body.{item_names, with_predicate}
 use Rattle.tptp.proofs.Final.{zipped, numbered_all, used_below}
-use Rattle.tptp.proofs.Items.{names_of_kind, literals_variables, uses_are}
+use Rattle.tptp.proofs.Items.{literals_variables, uses_are}
 use Rattle.tptp.proofs.Stages.{with_variable, zipped_mapped, under_each, kinds_predicates}
 use Rattle.tptp.proofs.Trees.{Good, literals_words_is, literals_within}
 

@@ -1,7 +1,7 @@
 -- One part more of an item in memory, with premises as the code has them.
 use mathlib.Core.Bool.{Bool, true, false}
-use mathlib.Core.List.{List, [], ◌∷◌, ◌++◌}
-use mathlib.Core.Path.{◌≡◌, refl, sym, ap, ap₂, ◌∙◌}
+use mathlib.Core.List.{List, [], ◌∷◌}
+use mathlib.Core.Path.{◌≡◌, refl, sym, ap}
 use Prim.Native.Nat.{ℕ, zero, suc, ◌+◌, ◌-◌, ◌*◌, ◌/◌, ◌%◌, ◌≤◌, ◌<◌}
 use native.Mathlib.Nat.{not-suc-le-zero, le_of_suc-le-suc}
 use native.Mathlib.Omega.{arith}
@@ -10,8 +10,8 @@ use mir.Val.{Fits}
 use borrow.Author.Tests.{eqb-true, eqb-false}
 use lib.Dec.{eqb}
 use lib.ListN.{length, take, get_or, set, length-take, length-set}
-use lib.Seq.{take-set-lt, get_or-take, get_or-set_same, get_or-set_other, set_out}
-use Rattle.tptp.specs.Sketch.{Item, with_part, part_added}
+use lib.Seq.{take-set-lt, get_or-take, get_or-set_same, get_or-set_other}
+use Rattle.tptp.specs.Sketch.{Item, with_part}
 use Rattle.tptp.specs.Memory.{item_of, items_of, inner_of, Small, PartAdded}
 
 pub items_few : (text ms ps : List ℕ) → length (items_of text ms ps) ≤ length ms

@@ -1,15 +1,15 @@
 -- What is promised of reading a text.
 use mathlib.Core.Bool.{false}
-use mathlib.Core.List.{List, [], ◌∷◌, ◌++◌}
+use mathlib.Core.List.{List}
 use mathlib.Core.Logic.{◌↔◌}
 use mathlib.Core.Path.{◌≡◌, refl, sym, ap, ◌∙◌}
 use Prim.Native.Nat.{ℕ, ◌+◌, ◌≤◌}
 use native.Mathlib.Omega.{arith}
-use lib.ListN.{length, take, drop, length-append}
+use lib.ListN.{length, drop, length-append}
 use lib.Seq.{take-append_seam, drop-append_seam}
 use Rattle.clausetext.specs.declared.judge.Verdict.TheVariants.{Wrong, Fine}
 use Rattle.clausetext.specs.Syntax.{Clause}
-use Rattle.clausetext.specs.Texts.{Says, questions, Verdicts}
+use Rattle.clausetext.specs.Texts.{Says, Verdicts}
 use Rattle.clausetext.proofs.Judgement.{only_verdict}
 use Rattle.clausetext.proofs.OneReading.{one_reading}
 use Rattle.table.specs.declared.Judgement.{Judgement}
@@ -148,12 +148,15 @@ pub file_accepted_as_said : FileAccepted
 unfolding FileAccepted
 file_accepted_as_said text file r left cs y a e = told_written y a e
 
+answered_kept : {cs : List Clause} {file : List ℕ} {r : TextRead} {left : List ℕ} → Answered cs file r left → (r.status ≡ 0 → ⊥) → left ≡ file
+answered_kept (unasked a) e = refl
+answered_kept (over a b) e = refl
+answered_kept (positive a b c) e = refl
+answered_kept (read a b c) e = absurd (e refl)
+
 kept : {text file : List ℕ} {r : TextRead} {left : List ℕ} → Reads text file r left → (r.status ≡ 0 → ⊥) → left ≡ file
 kept (wrong a) e = refl
-kept (fine h y (unasked a)) e = refl
-kept (fine h y (over a b)) e = refl
-kept (fine h y (positive a b c)) e = refl
-kept (fine h y (read a b c)) e = absurd (e refl)
+kept (fine h y a) e = answered_kept a e
 
 pub refusal_changes_nothing : RefusalChangesNothing
 unfolding RefusalChangesNothing

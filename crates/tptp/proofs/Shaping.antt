@@ -1,14 +1,14 @@
 -- The words of the items before their names are numbered, with premises as the code has them.
 use mathlib.Core.Bool.{Bool, true, false, ◌&&◌}
 use mathlib.Core.List.{List, [], ◌∷◌, ◌++◌}
-use mathlib.Core.Path.{◌≡◌, refl, sym, ap, ap₂, ◌∙◌}
-use Prim.Native.Nat.{ℕ, zero, suc, ◌+◌, ◌-◌, ◌*◌, ◌/◌, ◌%◌, ◌^◌, ◌≤◌, ◌<◌}
+use mathlib.Core.Path.{◌≡◌, refl, sym, ap, ◌∙◌}
+use Prim.Native.Nat.{ℕ, zero, suc, ◌+◌, ◌/◌, ◌%◌, ◌^◌, ◌≤◌, ◌<◌}
 use native.Mathlib.Numerals.{add-one}
 use native.Mathlib.Omega.{arith}
 use borrow.Author.Tests.{leb-true, leb-false, not-true, not-false}
 use lib.Dec.{leb}
 use lib.ListN.{length, take, drop, get_or, set, length-set, drop_of_length-le}
-use lib.Seq.{drop-cons, take-suc, take-suc-set, take_all, take-length}
+use lib.Seq.{drop-cons, take-suc, take-suc-set, take_all}
 use Rattle.words.specs.Fields.{variable_word, function_word, literal_word, clause_word}
 use Rattle.tptp.specs.Shapes.{shape_by, fits_by, shape_of, fits_of, shapes, all_fit, Shaped}
 

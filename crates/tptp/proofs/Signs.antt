@@ -1,21 +1,21 @@
 -- Signs, and the sorts of names, with premises as the code has them.
-use mathlib.Core.Bool.{Bool, true, false, cond}
+use mathlib.Core.Bool.{Bool, true, false}
 use mathlib.Core.List.{List, [], ◌∷◌}
-use mathlib.Core.Path.{◌≡◌, refl, sym, ap, ◌∙◌}
+use mathlib.Core.Path.{◌≡◌, refl, ◌∙◌}
 use Prim.Native.Nat.{ℕ, zero, suc, ◌+◌, ◌-◌, ◌≤◌, ◌<◌}
 use native.Mathlib.Numerals.{add-one}
 use native.Mathlib.Omega.{arith}
 use borrow.Author.Tests.{eq-eqb, ne_eqb, le-leb, lt-leb}
-use lib.Dec.{eqb, leb}
-use lib.ListN.{length, drop, get_or, set, length-set}
-use lib.Seq.{get_or-set_same, get_or-set_other, drop-cons}
+use lib.Dec.{leb}
+use lib.ListN.{length, get_or, set, length-set}
+use lib.Seq.{get_or-set_same, get_or-set_other}
 use Rattle.clausetext.specs.declared.kind.Mark.{Mark}
 use Rattle.clausetext.specs.declared.kind.Mark.TheVariants.{Open, Close, Comma, Bar, Tilde, Dot}
 use Rattle.clausetext.specs.Kinds.{kind_of, sign_kind, letter_kind}
 use Rattle.names.proofs.Same.{no_name, name_over, name_on}
-use Rattle.names.specs.Noting.{name_byte, name_from, name_at}
+use Rattle.names.specs.Noting.{name_byte, name_at}
 use Rattle.tptp.specs.declared.sketch.Progress.{Progress}
-use Rattle.tptp.specs.Sketch.{Item, name_sort, role_sort, outer, on_mark}
+use Rattle.tptp.specs.Sketch.{name_sort, role_sort, outer, on_mark}
 use Rattle.tptp.specs.Memory.{inner_of, mark_met, NameSort, Signed, Deepening}
 
 -- what stands below the place of a store is as it was

@@ -1,13 +1,11 @@
 -- Where a clause ends, and a part numbered, with premises as the code has them.
-use mathlib.Core.Bool.{Bool, true, false, cond}
-use mathlib.Core.List.{List, [], ◌∷◌, ◌++◌}
-use mathlib.Core.Path.{◌≡◌, refl, sym, ap, ◌∙◌}
-use Prim.Native.Nat.{ℕ, zero, suc, ◌+◌, ◌-◌, ◌≤◌, ◌<◌}
+use mathlib.Core.List.{List, ◌++◌}
+use mathlib.Core.Path.{◌≡◌, refl, sym, ◌∙◌}
+use Prim.Native.Nat.{ℕ, ◌+◌, ◌-◌, ◌≤◌, ◌<◌}
 use native.Mathlib.Numerals.{add-one}
 use native.Mathlib.Omega.{arith}
 use borrow.Author.Tests.{eq-eqb, ne_eqb}
-use lib.Dec.{eqb}
-use lib.ListN.{length, take, drop, get_or, drop_of_length-le, length-append, length-take, length-drop}
+use lib.ListN.{length, take, drop, get_or, drop_of_length-le, length-append, length-drop}
 use lib.Seq.{drop-cons, drop-drop, length-take-le}
 use Rattle.words.specs.Fields.{kind_of}
 use Rattle.names.specs.Noting.{Numbering}

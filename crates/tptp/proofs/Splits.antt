@@ -1,22 +1,17 @@
 -- A text with one question: the clauses before it and after it, their words and their items.
-use mathlib.Core.Bool.{Bool, true, false, cond}
-use mathlib.Core.List.{List, [], ◌∷◌, ◌++◌, append_assoc, append-nil}
-use mathlib.Core.Path.{◌≡◌, refl, sym, ap, ap₂, subst, ◌∙◌}
-use Prim.Native.Nat.{ℕ, zero, suc, ◌+◌, ◌≤◌, ◌<◌}
+use mathlib.Core.List.{List, [], ◌∷◌, ◌++◌, append_assoc}
+use mathlib.Core.Path.{◌≡◌, refl, sym, ap, ap₂, ◌∙◌}
+use Prim.Native.Nat.{ℕ, suc, ◌+◌}
 use native.Mathlib.Omega.{arith}
 use lib.ListN.{length, length-append}
-use Rattle.names.specs.Numbers.{Name, number_in}
-use Rattle.table.specs.Syntax.{Table, all_clauses}
+use Rattle.names.specs.Numbers.{Name}
 use Rattle.table.specs.Syntax.{Clause as ClauseSaid}
-use Rattle.table.specs.Encode.{term_words, terms_words, literal_words, literals_words, clause_words, clauses_words, body_words}
-use Rattle.table.specs.Limits.{Each, ClauseWithin, Within}
+use Rattle.table.specs.Encode.{term_words, terms_words, literal_words, literals_words, clause_words, clauses_words}
 use Rattle.clausetext.specs.Syntax.{Term, variable, application, Terms, nil, ◌then◌, Literal, Role, Axiom, Hypothesis, NegatedConjecture, Clause, question}
 use Rattle.clausetext.specs.Texts.{questions}
-use Rattle.tptp.specs.Said.{predicates, functions, term_said, terms_said, literal_said, literals_said, clause_said, clauses_said, besides, stated, asking, asked, table_said}
-use Rattle.tptp.specs.Sketch.{Item, term_items, terms_items, literal_sort, literal_items, literals_items, clause_sort, clause_items, clauses_items}
-use Rattle.tptp.specs.Body.{bodies, ClauseFits}
-use Rattle.tptp.proofs.Ahead.{Before}
-use Rattle.tptp.proofs.Trees.{each_front, each_rest, each_both}
+use Rattle.tptp.specs.Said.{term_said, terms_said, literal_said, literals_said, clause_said, clauses_said, besides, stated, asking, asked}
+use Rattle.tptp.specs.Sketch.{term_items, terms_items, literal_items, literals_items, clause_items, clauses_items}
+use Rattle.tptp.specs.Body.{bodies}
 
 -- as many words as items
 module _ (ps fs vs : List Name) where

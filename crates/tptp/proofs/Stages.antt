@@ -1,13 +1,12 @@
 -- The words of the items, numbered kind by kind: functions, predicates, and the variables of each clause.
 use mathlib.Core.Bool.{Bool, true, false, cond}
-use mathlib.Core.List.{List, [], ◌∷◌, ◌++◌, map}
-use mathlib.Core.Path.{◌≡◌, refl, sym, ap, ap₂, ◌∙◌}
-use Prim.Native.Nat.{ℕ, zero, suc, ◌+◌, ◌-◌, ◌*◌, ◌/◌, ◌%◌, ◌^◌, ◌≤◌, ◌<◌}
+use mathlib.Core.List.{List, [], ◌∷◌, map}
+use mathlib.Core.Path.{◌≡◌, refl, sym, ap, ◌∙◌}
+use Prim.Native.Nat.{ℕ, zero, suc, ◌+◌, ◌%◌, ◌^◌, ◌≤◌, ◌<◌}
 use native.Mathlib.Omega.{arith}
-use borrow.Author.Tests.{eqb-true, eqb-false, eq-eqb, ne_eqb, leb-true}
-use lib.Dec.{eqb, leb}
-use lib.ListN.{length}
-use Rattle.words.specs.Fields.{kind_of, sign_bit, variable_word, function_word, literal_word, clause_word}
+use borrow.Author.Tests.{eqb-true, eqb-false}
+use lib.Dec.{eqb}
+use Rattle.words.specs.Fields.{kind_of, variable_word, function_word, literal_word}
 use Rattle.words.proofs.Packed.{function_kind, literal_kind, clause_kind}
 use Rattle.names.specs.Numbers.{Name, number_in}
 use Rattle.table.specs.Limits.{Each}

@@ -1,16 +1,13 @@
 -- The words of the items of a clause are the words of the clause said, and the limits on items and names are document 01's limits on the clause.
-use mathlib.Core.Bool.{Bool, true, false, cond}
+use mathlib.Core.Bool.{Bool, true, false}
 use mathlib.Core.List.{List, [], ◌∷◌, ◌++◌, map, map-append}
 use mathlib.Core.Path.{◌≡◌, refl, sym, ap, ap₂, ◌∙◌}
-use Prim.Native.Nat.{ℕ, zero, suc, ◌+◌, ◌^◌, ◌≤◌, ◌<◌}
-use native.Mathlib.Omega.{arith}
+use Prim.Native.Nat.{ℕ, suc, ◌≤◌, ◌<◌}
 use borrow.Author.Tests.{leb-true, le-leb}
 use lib.Dec.{leb}
-use lib.ListN.{length, length-append}
 use Rattle.words.specs.Fields.{function_word, literal_word}
 use Rattle.names.specs.Numbers.{Name, number_in}
-use Rattle.table.specs.Syntax.{var, app, arity}
-use Rattle.table.specs.Syntax.{Literal as LiteralSaid}
+use Rattle.table.specs.Syntax.{arity}
 use Rattle.table.specs.Encode.{term_words, terms_words, literal_words, literals_words}
 use Rattle.table.specs.Limits.{Each, TermWithin, TermsWithin, LiteralWithin}
 use Rattle.clausetext.specs.Syntax.{Term, variable, application, Terms, nil, ◌then◌, Literal}

@@ -1,8 +1,8 @@
 -- The items of a permitted text gathered to the text's end, with premises as the code has them.
 use mathlib.Core.Bool.{Bool, true, false, cond}
 use mathlib.Core.List.{List, [], ◌∷◌}
-use mathlib.Core.Path.{◌≡◌, refl, sym, ap, ◌∙◌}
-use Prim.Native.Nat.{ℕ, zero, suc, ◌+◌, ◌-◌, ◌≤◌, ◌<◌}
+use mathlib.Core.Path.{◌≡◌, refl, ap, ◌∙◌}
+use Prim.Native.Nat.{ℕ, suc, ◌-◌, ◌≤◌, ◌<◌}
 use native.Mathlib.Omega.{arith}
 use lib.ListN.{length, take, drop}
 use mir.Syntax.{w32}
@@ -10,7 +10,6 @@ use mir.Val.{Fits}
 use Rattle.clausetext.specs.declared.kind.Mark.{Mark}
 use Rattle.clausetext.specs.declared.token.Lexeme.{Lexeme}
 use Rattle.clausetext.specs.declared.token.Lexeme.TheVariants.{Word, Capital, Sign, Over}
-use Rattle.clausetext.specs.Kinds.{kind_of, goes_on}
 use Rattle.clausetext.specs.Syntax.{Clause}
 use Rattle.clausetext.specs.Tokens.{Token, word, capital, mark, Spelt}
 use Rattle.clausetext.specs.Texts.{Says, Permitted}
@@ -19,8 +18,8 @@ use Rattle.clausetext.proofs.Walking.{WordFound, SignFound, Met, over, lettered,
 use Rattle.names.specs.Numbers.{Name}
 use Rattle.names.specs.Noting.{name_byte, name_from, name_at}
 use Rattle.tptp.specs.declared.sketch.Progress.{Progress}
-use Rattle.tptp.specs.Sketch.{clauses_items, Gathering, on_token, gather, start}
-use Rattle.tptp.specs.Memory.{items_of, inner_of, sketch_of, gathering_of, Small, Ready, Further, word_met, capital_met, mark_met, Signed, Deepening, Empty, Gathered}
+use Rattle.tptp.specs.Sketch.{clauses_items, Gathering, on_token, gather}
+use Rattle.tptp.specs.Memory.{items_of, inner_of, sketch_of, Small, Ready, Further, word_met, capital_met, mark_met, Signed, Deepening, Empty, Gathered}
 use Rattle.tptp.proofs.Gathered.{clauses_gather}
 use Rattle.tptp.proofs.Adding.{items_count}
 

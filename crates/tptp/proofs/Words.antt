@@ -1,18 +1,16 @@
 -- Words that begin lower-case or upper-case, with premises as the code has them.
-use mathlib.Core.Bool.{Bool, true, false, cond}
+use mathlib.Core.Bool.{false}
 use mathlib.Core.List.{List, [], ◌∷◌}
-use mathlib.Core.Path.{◌≡◌, refl, sym, ap, ◌∙◌}
-use Prim.Native.Nat.{ℕ, zero, suc, ◌+◌, ◌-◌, ◌≤◌, ◌<◌}
+use mathlib.Core.Path.{◌≡◌, ap, ◌∙◌}
+use Prim.Native.Nat.{ℕ, ◌+◌, ◌≤◌, ◌<◌}
 use native.Mathlib.Omega.{arith}
 use borrow.Author.Tests.{eq-eqb, ne_eqb, le-leb, lt-leb}
-use lib.Dec.{eqb, leb}
-use lib.ListN.{length, take, get_or, set, length-set}
+use lib.ListN.{length, set, length-set}
 use lib.Seq.{get_or-set_same}
-use Rattle.names.specs.Numbers.{Name}
 use Rattle.names.specs.Noting.{name_at}
 use Rattle.tptp.specs.declared.sketch.Progress.{Progress}
-use Rattle.tptp.specs.Sketch.{role_sort, name_sort, on_word, on_capital}
-use Rattle.tptp.specs.Memory.{items_of, inner_of, Small, Ready, Further, adding, beginning, word_met, capital_met, NameSort}
+use Rattle.tptp.specs.Sketch.{role_sort, on_word, on_capital}
+use Rattle.tptp.specs.Memory.{inner_of, Small, Ready, Further, adding, beginning, word_met, capital_met, NameSort}
 use Rattle.tptp.proofs.Adding.{items_count, item_added, small_set}
 
 small_more : {marks : List ℕ} {count : ℕ} → Small marks count → Small marks (count + 1)

@@ -1,5 +1,5 @@
 -- The table that a text stands for (document 02, order 1): names numbered by their first use, variable counts exact, the question last.
-use Rattle.std.specs.Prelude.{Bool, true, false, List, [], ◌∷◌, ◌++◌, map, ℕ, length}
+use Rattle.std.specs.Prelude.{false, List, [], ◌∷◌, ◌++◌, ℕ, length}
 use Rattle.names.specs.Numbers.{Name, first_uses, number_in}
 use Rattle.clausetext.specs.Syntax.{Term, variable, application, Terms, nil, ◌then◌, Literal, Role, Axiom, Hypothesis, NegatedConjecture, Clause}
 use Rattle.table.specs.Syntax.{var, app, nil as none, ◌then◌ as ◌and◌, Term as TermSaid, Terms as TermsSaid, Literal as LiteralSaid, Clause as ClauseSaid, Table}

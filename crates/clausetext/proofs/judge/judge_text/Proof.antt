@@ -7,10 +7,10 @@ use Rattle.clausetext.proofs.judge.judge_text.Tie as tie
 
 ruleset all = (rules, judge_laws)
 
-abbrev invariant-loop : tie.invariant-loop
+abbrev invariant-loop : tie.invariant-loop-at
 invariant-loop text s₀ at₀ s at = (length text ≤ 65536) × Judging text s at
 
-abbrev decreases-loop : tie.decreases-loop
+abbrev decreases-loop : tie.decreases-loop-at
 decreases-loop text s₀ at₀ s at = length text - at
 
 pub judge_text_spec : {M : Type 1} → statement M

@@ -7,10 +7,10 @@ use Rattle.clausetext.proofs.stuck.question_name.Tie as tie
 
 ruleset all = (rules, seek_laws)
 
-abbrev invariant-loop : tie.invariant-loop
+abbrev invariant-loop : tie.invariant-loop-at
 invariant-loop text many s₀ name₀ at₀ s name at = Seeking text many s at name
 
-abbrev decreases-loop : tie.decreases-loop
+abbrev decreases-loop : tie.decreases-loop-at
 decreases-loop text many s₀ name₀ at₀ s name at = length text - at
 
 pub question_name_spec : {M : Type 1} → statement M

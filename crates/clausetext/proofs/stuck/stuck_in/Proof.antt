@@ -7,10 +7,10 @@ use Rattle.clausetext.proofs.stuck.stuck_in.Tie as tie
 
 ruleset all = (rules, follow_laws)
 
-abbrev invariant-loop : tie.invariant-loop
+abbrev invariant-loop : tie.invariant-loop-at
 invariant-loop text s₀ at₀ s at = Following text s at
 
-abbrev decreases-loop : tie.decreases-loop
+abbrev decreases-loop : tie.decreases-loop-at
 decreases-loop text s₀ at₀ s at = length text - at
 
 pub stuck_in_spec : {M : Type 1} → statement M

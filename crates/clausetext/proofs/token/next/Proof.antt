@@ -7,10 +7,10 @@ use Rattle.clausetext.proofs.token.next.Tie as tie
 
 ruleset all = (rules, next_laws)
 
-abbrev invariant-loop : tie.invariant-loop
+abbrev invariant-loop : tie.invariant-loop-at
 invariant-loop text from at₀ remark₀ at remark = Passing text from at remark
 
-abbrev decreases-loop : tie.decreases-loop
+abbrev decreases-loop : tie.decreases-loop-at
 decreases-loop text from at₀ remark₀ at remark = length text - at
 
 pub next_spec : {M : Type 1} → statement M

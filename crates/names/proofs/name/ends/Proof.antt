@@ -5,16 +5,16 @@ use Rattle.names.proofs.name.ends.Tie as tie
 
 ruleset all = (rules, ends_at, ends_after)
 
-shared-slice-read-goes-on : tie.Need-shared-slice-read-goes-on
+shared-slice-read-goes-on : tie.Need-bounds-text-at
 shared-slice-read-goes-on c = search all
 
-goes-on-requires : tie.Need-goes-on-requires
+goes-on-requires : tie.Need-goes_on-requires
 goes-on-requires c κs = search all
 
-returns : tie.Need-returns
+returns : tie.Need-returns-then-at-text
 returns c = search all
 
-returns-2 : tie.Need-returns-2
+returns-2 : tie.Need-returns
 returns-2 c = search all
 
 pub ends_spec : {M : Type 1} → statement M

@@ -1,11 +1,11 @@
 use borrow.Author.Rules.{rules}
-use Rattle.names.proofs.name.goes_on_lem.Statement.{statement}
-use Rattle.names.proofs.name.goes_on_lem.Tie as tie
+use Rattle.names.proofs.name.goes_on.Statement.{statement}
+use Rattle.names.proofs.name.goes_on.Tie as tie
 
-kind-of-requires : tie.Need-kind-of-requires
+kind-of-requires : tie.Need-kind_of-requires
 kind-of-requires c κs = search rules
 
-goes-on-requires : tie.Need-goes-on-requires
+goes-on-requires : tie.Need-goes_on-requires
 goes-on-requires c κs = search rules
 
 returns : tie.Need-returns

@@ -5,13 +5,13 @@ use Rattle.names.proofs.table.by_tree.Tie as tie
 
 ruleset all = (rules, empty_tree, no_marks)
 
-slice-aggregate-number : tie.Need-slice-aggregate-number
+slice-aggregate-number : tie.Need-slice_bounds-number-end
 slice-aggregate-number c = search rules
 
 number-requires : tie.Need-number-requires
 number-requires c κs = search all
 
-same_length : tie.Need-same-length
+same_length : tie.Need-shape_of-words
 same_length c = search rules
 
 returns : tie.Need-returns

@@ -9,62 +9,62 @@ use Rattle.names.proofs.tree.fits.Tie as tie
 
 ruleset all = (rules, fitting_laws)
 
-abbrev invariant-loop : tie.invariant-loop
+abbrev invariant-loop : tie.invariant-loop-i
 invariant-loop text starts words kind left₀ i₀ left i = Fitting text starts words kind left i
 
-abbrev decreases-loop : tie.decreases-loop
+abbrev decreases-loop : tie.decreases-loop-i
 decreases-loop text starts words kind left₀ i₀ left i = length words - i
 
-loop-holds : tie.Need-loop-init invariant-loop decreases-loop
+loop-holds : tie.Need-loop-i-init invariant-loop decreases-loop
 loop-holds c = search all
 
-mul-kind : tie.Need-overflow-mul-kind invariant-loop decreases-loop
+mul-kind : tie.Need-offset_bounds-words-i invariant-loop decreases-loop
 mul-kind c = search all
 
-shared-slice-read-kind : tie.Need-shared-slice-read-kind invariant-loop decreases-loop
+shared-slice-read-kind : tie.Need-bounds-words-i invariant-loop decreases-loop
 shared-slice-read-kind c = search all
 
 kind-requires : tie.Need-kind-requires invariant-loop decreases-loop
 kind-requires c κs = search all
 
-add-i : tie.Need-overflow-add-i invariant-loop decreases-loop
+add-i : tie.Need-overflow_add-i invariant-loop decreases-loop
 add-i c = search all
 
-loop-less : tie.Need-loop-smaller invariant-loop decreases-loop
+loop-less : tie.Need-loop-i-smaller-then-kind invariant-loop decreases-loop
 loop-less c = search all
 
-loop-again : tie.Need-loop-preserved invariant-loop decreases-loop
-loop-again c = fitting_other (search rules) c.before.before.before.before.loop.invariant (search rules) c.before.kind.ensures (search rules)
+loop-again : tie.Need-loop-i-preserved-then-kind invariant-loop decreases-loop
+loop-again c = fitting_other (search rules) c.loop-i.invariant (search rules) c.kind.ensures (search rules)
 
-mul_wide : tie.Need-overflow-mul-wide invariant-loop decreases-loop
+mul_wide : tie.Need-offset_bounds-starts-i invariant-loop decreases-loop
 mul_wide c = search all
 
-shared-slice-read-wide : tie.Need-shared-slice-read-wide invariant-loop decreases-loop
+shared-slice-read-wide : tie.Need-bounds-starts-i invariant-loop decreases-loop
 shared-slice-read-wide c = search all
 
 wide-requires : tie.Need-wide-requires invariant-loop decreases-loop
 wide-requires c κs = search all
 
-bytes-requires : tie.Need-bytes-requires invariant-loop decreases-loop
+bytes-requires : tie.Need-bytes-bytes-requires invariant-loop decreases-loop
 bytes-requires c κs = search all
 
-returns : tie.Need-returns invariant-loop decreases-loop
+returns : tie.Need-returns-then-left-bytes invariant-loop decreases-loop
 returns c = λ e. let z : ◌≡◌ {A = ℕ} 0 1 = cc in absurd (omega arith)
 
-add-i-2 : tie.Need-overflow-add-i-2 invariant-loop decreases-loop
+add-i-2 : tie.Need-overflow_add-i-in-loop-i invariant-loop decreases-loop
 add-i-2 c = search all
 
-loop-less-2 : tie.Need-loop-smaller-2 invariant-loop decreases-loop
+loop-less-2 : tie.Need-loop-i-smaller invariant-loop decreases-loop
 loop-less-2 c = search all
 
-loop-again-2 : tie.Need-loop-preserved-2 invariant-loop decreases-loop
+loop-again-2 : tie.Need-loop-i-preserved invariant-loop decreases-loop
 loop-again-2 c =
-    let here = c.before.before.before.before in
-    fitting_this (search rules) here.before.before.before.before.loop.invariant (search rules) here.before.kind.ensures (search rules) c.before.before.wide.ensures
-    c.before.bytes.ensures (search rules)
+    let here = c in
+    fitting_this (search rules) here.loop-i.invariant (search rules) here.kind.ensures (search rules) c.wide.ensures
+    c.bytes-bytes.ensures (search rules)
 
-returns-2 : tie.Need-returns-2 invariant-loop decreases-loop
-returns-2 c = λ e. fitting_end (search rules) c.before.loop.invariant (search rules)
+returns-2 : tie.Need-returns invariant-loop decreases-loop
+returns-2 c = λ e. fitting_end (search rules) c.loop-i.invariant (search rules)
 
 pub fits_spec : {M : Type 1} → statement M
 fits_spec =

@@ -5,13 +5,13 @@ use Rattle.names.proofs.tree.note.Tie as tie
 
 ruleset all = (rules, use_noted)
 
-enter-requires : tie.Need-enter-requires
+enter-requires : tie.Need-enter-entered-requires
 enter-requires c κs = search rules
 
 mark-requires : tie.Need-mark-requires
 mark-requires c κs = search rules
 
-same_length : tie.Need-same-length
+same_length : tie.Need-shape_of-memory
 same_length c = search rules
 
 returns : tie.Need-returns

@@ -5,40 +5,40 @@ use Rattle.tptp.proofs.call.read_asked.Tie as tie
 
 ruleset all = (rules, asked_laws)
 
-slice-aggregate-gather : tie.Need-slice-aggregate-gather
+slice-aggregate-gather : tie.Need-slice_bounds-gather-end
 slice-aggregate-gather c = search all
 
-slice-aggregate-gather-2 : tie.Need-slice-aggregate-gather-2
+slice-aggregate-gather-2 : tie.Need-slice_bounds-gather-end-2
 slice-aggregate-gather-2 c = search all
 
-slice-aggregate-gather-3 : tie.Need-slice-aggregate-gather-3
+slice-aggregate-gather-3 : tie.Need-slice_bounds-gather-end-3
 slice-aggregate-gather-3 c = search all
 
-gather-requires : tie.Need-gather-requires
+gather-requires : tie.Need-gather-count-requires
 gather-requires c κs = search all
 
-sub-read-items : tie.Need-overflow-sub-read-items
+sub-read-items : tie.Need-slice_bounds-read_items-count
 sub-read-items c = search all
 
-part-read-items-start : tie.Need-slice-bounds-read-items-start
+part-read-items-start : tie.Need-slice_bounds-read_items-start
 part-read-items-start c = search all
 
-part-read-items-end : tie.Need-slice-bounds-read-items-end
+part-read-items-end : tie.Need-slice_bounds-read_items-end
 part-read-items-end c = search all
 
-sub-read-items-2 : tie.Need-overflow-sub-read-items-2
+sub-read-items-2 : tie.Need-slice_bounds-read_items-count-2
 sub-read-items-2 c = search all
 
-part-read-items-start-2 : tie.Need-slice-bounds-read-items-start-2
+part-read-items-start-2 : tie.Need-slice_bounds-read_items-start-2
 part-read-items-start-2 c = search all
 
-part-read-items-end-2 : tie.Need-slice-bounds-read-items-end-2
+part-read-items-end-2 : tie.Need-slice_bounds-read_items-end-2
 part-read-items-end-2 c = search all
 
-read-items-requires : tie.Need-read-items-requires
+read-items-requires : tie.Need-read_items-requires
 read-items-requires c κs = search all
 
-same_length : tie.Need-same-length
+same_length : tie.Need-shape_of-file
 same_length c = search all
 
 returns : tie.Need-returns

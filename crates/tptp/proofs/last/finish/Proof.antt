@@ -11,52 +11,52 @@ make-requires c κs = search all
 refused-requires : tie.Need-refused-requires
 refused-requires c κs = search all
 
-same_length : tie.Need-same-length
+same_length : tie.Need-shape_of-words-then-not-make
 same_length c = search all
 
-returns : tie.Need-returns
+returns : tie.Need-returns-then-not-make
 returns c = search all
 
-seek-requires : tie.Need-seek-requires
+seek-requires : tie.Need-seek-at-requires
 seek-requires c κs = search all
 
-add-seek : tie.Need-overflow-add-seek
+add-seek : tie.Need-overflow_add-at
 add-seek c = search all
 
-seek-requires-2 : tie.Need-seek-requires-2
+seek-requires-2 : tie.Need-seek-end-requires
 seek-requires-2 c κs = search all
 
-add-seek-2 : tie.Need-overflow-add-seek-2
+add-seek-2 : tie.Need-overflow_add-at-2
 add-seek-2 c = search all
 
-seek-requires-3 : tie.Need-seek-requires-3
+seek-requires-3 : tie.Need-seek-requires
 seek-requires-3 c κs = search all
 
-refused-requires-2 : tie.Need-refused-requires-2
+refused-requires-2 : tie.Need-refused-requires-then-seek-end
 refused-requires-2 c κs = search all
 
-same-length-2 : tie.Need-same-length-2
+same-length-2 : tie.Need-shape_of-words-then-seek-end
 same-length-2 c = search all
 
-returns-2 : tie.Need-returns-2
+returns-2 : tie.Need-returns-then-seek-end
 returns-2 c = search all
 
 write-requires : tie.Need-write-requires
 write-requires c κs = search all
 
-cast-t20 : tie.Need-overflow-cast-t20
+cast-t20 : tie.Need-overflow_cast-result
 cast-t20 c = search all
 
-add-t21 : tie.Need-overflow-add-t21
+add-t21 : tie.Need-overflow_add-result
 add-t21 c = search all
 
-same-length-3 : tie.Need-same-length-3
+same-length-3 : tie.Need-shape_of-words
 same-length-3 c = search all
 
-same-length-4 : tie.Need-same-length-4
+same-length-4 : tie.Need-shape_of-file
 same-length-4 c = search all
 
-returns-3 : tie.Need-returns-3
+returns-3 : tie.Need-returns
 returns-3 c = search all
 
 pub finish_spec : {M : Type 1} → statement M

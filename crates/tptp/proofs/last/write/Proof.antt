@@ -5,49 +5,49 @@ use Rattle.tptp.proofs.last.write.Tie as tie
 
 ruleset all = (rules, write_done)
 
-sub-question : tie.Need-overflow-sub-question
+sub-question : tie.Need-overflow_sub-question
 sub-question c = search all
 
-add-question : tie.Need-overflow-add-question
+add-question : tie.Need-overflow_add-question
 add-question c = search all
 
-sub-append : tie.Need-overflow-sub-append
+sub-append : tie.Need-slice_bounds-append-count
 sub-append c = search all
 
-part-append-start : tie.Need-slice-bounds-append-start
+part-append-start : tie.Need-slice_bounds-append-start
 part-append-start c = search all
 
-part-append-end : tie.Need-slice-bounds-append-end
+part-append-end : tie.Need-slice_bounds-append-end
 part-append-end c = search all
 
 append-requires : tie.Need-append-requires
 append-requires c κs = search all
 
-mul-append : tie.Need-overflow-mul-append
+mul-append : tie.Need-offset_bounds-words-end
 mul-append c = search all
 
-sub-append-2 : tie.Need-overflow-sub-append-2
+sub-append-2 : tie.Need-slice_bounds-append-count-2
 sub-append-2 c = search all
 
-part-append-start-2 : tie.Need-slice-bounds-append-start-2
+part-append-start-2 : tie.Need-slice_bounds-append-start-2
 part-append-start-2 c = search all
 
-part-append-end-2 : tie.Need-slice-bounds-append-end-2
+part-append-end-2 : tie.Need-slice_bounds-append-end-2
 part-append-end-2 c = search all
 
 append-requires-2 : tie.Need-append-requires-2
 append-requires-2 c κs = search all
 
-mul-append-2 : tie.Need-overflow-mul-append-2
+mul-append-2 : tie.Need-offset_bounds-words-at
 mul-append-2 c = search all
 
-sub-append-3 : tie.Need-overflow-sub-append-3
+sub-append-3 : tie.Need-slice_bounds-append-count-3
 sub-append-3 c = search all
 
-part-append-start-3 : tie.Need-slice-bounds-append-start-3
+part-append-start-3 : tie.Need-slice_bounds-append-start-3
 part-append-start-3 c = search all
 
-part-append-end-3 : tie.Need-slice-bounds-append-end-3
+part-append-end-3 : tie.Need-slice_bounds-append-end-3
 part-append-end-3 c = search all
 
 append-requires-3 : tie.Need-append-requires-3
@@ -56,12 +56,12 @@ append-requires-3 c κs = search all
 seal-requires : tie.Need-seal-requires
 seal-requires c κs = search all
 
-same_length : tie.Need-same-length
+same_length : tie.Need-shape_of-file
 same_length c = search all
 
 returns : tie.Need-returns
 returns c =
-    write_done c.before.before.before.before.before.before.before.before.before.before.before.before.before.before.before.before.before.before.before.before.before.requires c.before.before.before.before.before.before.before.before.before.before.before.before.before.before.before.before.append.ensures c.before.before.before.before.before.before.before.before.before.before.before.append2.ensures c.before.before.before.before.before.before.append3.ensures c.before.before.seal.ensures
+    write_done c.requires c.append.ensures c.append-2.ensures c.append-3.ensures c.seal.ensures
 
 pub write_spec : {M : Type 1} → statement M
 write_spec =

@@ -5,10 +5,10 @@ use Rattle.tptp.proofs.shape.fits.Tie as tie
 
 ruleset all = (rules, fits_laws)
 
-returns : tie.Need-returns
+returns : tie.Need-returns-then-sort-lt4
 returns c = search all
 
-returns-2 : tie.Need-returns-2
+returns-2 : tie.Need-returns
 returns-2 c = search all
 
 pub fits_spec : {M : Type 1} → statement M

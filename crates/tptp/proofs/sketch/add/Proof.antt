@@ -5,28 +5,28 @@ use Rattle.tptp.proofs.sketch.add.Tie as tie
 
 ruleset all = (rules, added)
 
-add-part-requires : tie.Need-add-part-requires
+add-part-requires : tie.Need-add_part-requires
 add-part-requires c κs = search all
 
-mul-marks : tie.Need-overflow-mul-marks
+mul-marks : tie.Need-offset_bounds-marks-count
 mul-marks c = search all
 
-slice-write-marks : tie.Need-slice-write-marks
+slice-write-marks : tie.Need-bounds-marks-count
 slice-write-marks c = search all
 
-mul-places : tie.Need-overflow-mul-places
+mul-places : tie.Need-offset_bounds-places-count
 mul-places c = search all
 
-slice-write-places : tie.Need-slice-write-places
+slice-write-places : tie.Need-bounds-places-count
 slice-write-places c = search all
 
-add-t12 : tie.Need-overflow-add-t12
+add-t12 : tie.Need-overflow_add-result
 add-t12 c = search all
 
-same_length : tie.Need-same-length
+same_length : tie.Need-shape_of-marks
 same_length c = search all
 
-same-length-2 : tie.Need-same-length-2
+same-length-2 : tie.Need-shape_of-places
 same-length-2 c = search all
 
 returns : tie.Need-returns

@@ -5,13 +5,13 @@ use Rattle.tptp.proofs.sketch.leave.Tie as tie
 
 ruleset all = (rules, leave_laws)
 
-returns : tie.Need-returns
+returns : tie.Need-returns-then-depth-le1
 returns c = search all
 
-sub-t4 : tie.Need-overflow-sub-t4
+sub-t4 : tie.Need-overflow_sub-result
 sub-t4 c = search all
 
-returns-2 : tie.Need-returns-2
+returns-2 : tie.Need-returns
 returns-2 c = search all
 
 pub leave_spec : {M : Type 1} → statement M

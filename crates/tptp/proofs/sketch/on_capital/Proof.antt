@@ -8,19 +8,19 @@ ruleset all = (rules, capital_laws)
 add-requires : tie.Need-add-requires
 add-requires c κs = search all
 
-same_length : tie.Need-same-length
+same_length : tie.Need-shape_of-marks-then-stage-ge6
 same_length c = search all
 
-same-length-2 : tie.Need-same-length-2
+same-length-2 : tie.Need-shape_of-places-then-stage-ge6
 same-length-2 c = search all
 
-returns : tie.Need-returns
+returns : tie.Need-returns-then-stage-ge6
 returns c = search all
 
 pass-requires : tie.Need-pass-requires
 pass-requires c κs = search all
 
-returns-2 : tie.Need-returns-2
+returns-2 : tie.Need-returns
 returns-2 c = search all
 
 pub on_capital_spec : {M : Type 1} → statement M
