@@ -9,21 +9,21 @@ ghost use Rattle.answers.specs.Writing.{Counted, WordStands, RoomFor, Wrote, Unm
 use unification::{memory, terms};
 use words::fields;
 
-#[derive(Drop)]
+#[derive(Clone, Copy)]
 pub enum Room {
     Left(usize),
     Over,
 }
 
 // How much of the answer is written, and how many variables are numbered.
-#[derive(Drop)]
+#[derive(Clone, Copy)]
 pub struct Written {
     pub words: usize,
     pub numbered: u32,
 }
 
 // The words and disjuncts of an answer.
-#[derive(Drop)]
+#[derive(Clone, Copy)]
 pub struct Answer {
     pub words: u32,
     pub disjuncts: u32,

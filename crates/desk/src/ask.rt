@@ -8,7 +8,7 @@ use crate::file;
 use hukolearu::calls;
 
 // What a question hears.
-#[derive(Drop)]
+#[derive(Clone, Copy)]
 pub enum Answer {
     BudgetEnded,
     Found,

@@ -13,7 +13,7 @@ mod file;
 mod intake;
 
 // What the desk reports.
-#[derive(Drop)]
+#[derive(Clone, Copy)]
 pub enum Report {
     // A number out of range, a slot that is none of the three, over 500 records, or words left over.
     Refused,
@@ -86,7 +86,7 @@ pub fn ask_desk(
 
 // The report as numbers: status 0, 11 or 24, and 1 for each slot that is reported.
 #[repr(C)]
-#[derive(Drop)]
+#[derive(Clone, Copy)]
 pub struct DeskValues {
     pub status: u32,
     pub matinee: u32,

@@ -32,7 +32,7 @@ pub const CIRCULAR: u32 = 20;
 const LONG: usize = 16;
 
 // What becomes of a step: the tableau goes on, or the step is malformed, not allowed, or its pair does not unify with what is bound: two symbols differ, or a variable would hold itself.
-#[derive(Drop)]
+#[derive(Clone, Copy)]
 pub enum Judged {
     On(Place),
     Malformed,
@@ -42,13 +42,13 @@ pub enum Judged {
 }
 
 // The reference of an ancestor's literal.
-#[derive(Drop)]
+#[derive(Clone, Copy)]
 pub enum Above {
     At(u32),
     Nothing,
 }
 
-#[derive(Drop)]
+#[derive(Clone, Copy)]
 pub enum Verdict {
     // The number of steps.
     Accepted(u32),

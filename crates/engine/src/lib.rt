@@ -8,7 +8,7 @@ mod vain;
 mod walk;
 
 // What a search or a check goes by: the bound, and whether positive leaves are restarted.
-#[derive(Drop)]
+#[derive(Clone, Copy)]
 pub struct Conditions {
     pub bound: u32,
     pub restarts: bool,

@@ -30,7 +30,7 @@ const MOST: u32 = 3584;
 const NOTHING: u32 = 4096;
 
 // What a search goes by: how many words of the file are the body, where the question begins, the bound, and whether positive leaves are restarted.
-#[derive(Drop)]
+#[derive(Clone, Copy)]
 pub struct Task {
     pub body: u32,
     pub question: u32,
@@ -39,14 +39,14 @@ pub struct Task {
 }
 
 // A candidate of a leaf: the reference of an ancestor's literal, and its height; where a literal is entered; or the restart.
-#[derive(Drop)]
+#[derive(Clone, Copy)]
 pub enum Move {
     Reduce(u32, u32),
     Enter(Scan),
     Renew,
 }
 
-#[derive(Drop)]
+#[derive(Clone, Copy)]
 pub enum Ending {
     Found,
     Nothing,
@@ -54,7 +54,7 @@ pub enum Ending {
 }
 
 // How a search ended, the tries left of its budget, and the steps of what it found.
-#[derive(Drop)]
+#[derive(Clone, Copy)]
 pub struct Searched {
     pub ending: Ending,
     pub left: u32,

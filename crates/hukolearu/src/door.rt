@@ -8,7 +8,7 @@ use unification::memory;
 const HIGHEST_BOUND: u32 = 32;
 
 // What the checks look at beside the file: the bound, the words of work and of proof that were lent, and the least words of proof that will do.
-#[derive(Drop)]
+#[derive(Clone, Copy)]
 pub struct Inputs {
     pub bound: u32,
     pub work: usize,
@@ -16,7 +16,7 @@ pub struct Inputs {
     pub least: usize,
 }
 
-#[derive(Drop)]
+#[derive(Clone, Copy)]
 pub enum Entry {
     // Where the question begins.
     Open(u32),

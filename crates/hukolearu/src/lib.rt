@@ -7,7 +7,7 @@ pub mod status;
 
 // What every search and every check of a proof returns; numbers not named are 0.
 #[repr(C)]
-#[derive(Drop)]
+#[derive(Clone, Copy)]
 pub struct Outcome {
     pub status: u32,
     pub place: u32,

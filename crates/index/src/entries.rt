@@ -5,7 +5,7 @@ ghost use Rattle.index.specs.Scanning.{begun, past_word, other_sign};
 use words::fields;
 
 // Where a scan of the body stands: the next word, the clauses begun before it, where the latest begins, and its literals before the next word.
-#[derive(Drop)]
+#[derive(Clone, Copy)]
 pub struct Scan {
     pub at: u32,
     pub clauses: u32,
@@ -13,7 +13,7 @@ pub struct Scan {
     pub literals: u32,
 }
 
-#[derive(Drop)]
+#[derive(Clone, Copy)]
 pub enum Candidate {
     Entry(Scan),
     Done,

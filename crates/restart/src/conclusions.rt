@@ -8,7 +8,7 @@ ghost use Rattle.restart.specs.Walking.{unconcluded, conclusions_of};
 use words::fields;
 
 // There is nothing to refuse, or a clause has no positive literal: where the first such begins.
-#[derive(Drop)]
+#[derive(Clone, Copy)]
 pub enum Conclusions {
     Each,
     Missing(usize),

@@ -19,7 +19,7 @@ const LONGEST_CLAUSE: usize = 256;
 const TRAILER: usize = 4;
 
 // What a question came to, and its tries.
-#[derive(Drop)]
+#[derive(Clone, Copy)]
 pub(crate) struct Ended {
     pub(crate) result: u32,
     pub(crate) tries: u32,

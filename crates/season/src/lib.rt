@@ -26,7 +26,7 @@ const ROOM: usize = 16384;
 
 // What comes back: how many questions came to each of the six results, and the sum of their tries; on a refusal all numbers but status and place are 0.
 #[repr(C)]
-#[derive(Drop)]
+#[derive(Clone, Copy)]
 pub struct Report {
     pub status: u32,
     pub place: u32,

@@ -15,7 +15,7 @@ use unification::memory;
 
 // What comes back: the bound of a proof, its answer fitting or not, else 0; and the numbers of a search, its tries summed over the bounds.
 #[repr(C)]
-#[derive(Drop)]
+#[derive(Clone, Copy)]
 pub struct Least {
     pub bound: u32,
     pub outcome: Outcome,

@@ -11,7 +11,7 @@ use unification::{memory, unify};
 use words::fields;
 
 // The leftmost open leaf and one, 0 where none is open; the leaves noted, and the steps taken.
-#[derive(Drop)]
+#[derive(Clone, Copy)]
 pub struct Place {
     pub head: u32,
     pub leaves: u32,
@@ -19,7 +19,7 @@ pub struct Place {
 }
 
 // How the pair of a step met, and the place after it.
-#[derive(Drop)]
+#[derive(Clone, Copy)]
 pub struct Taken {
     pub meeting: Meeting,
     pub place: Place,

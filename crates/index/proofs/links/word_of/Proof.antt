@@ -13,5 +13,5 @@ word_of_spec =
     (λ c. search rules)
     (λ c κs. search rules)
     (λ c. search rules)
-    (λ c. rw (c.before.wide2.ensures, c.before.before.before.wide.ensures) c.before.before.before.before.before.before.requires.2)
+    (λ c. rw (c.wide-2.ensures, c.wide.ensures) c.requires.2)
     (λ c. cc))

@@ -8,10 +8,10 @@ use Rattle.index.proofs.Plain.{passed_asked, passed_less, passed_on}
 use Rattle.index.proofs.notes.note.Statement.{statement}
 use Rattle.index.proofs.notes.note.Tie as tie
 
-abbrev invariant-loop : tie.invariant-loop
+abbrev invariant-loop : tie.invariant-loop-scan
 invariant-loop file work₀ body scan₀ count₀ work scan count = Noting file body work scan count
 
-abbrev decreases-loop : tie.decreases-loop
+abbrev decreases-loop : tie.decreases-loop-scan
 decreases-loop file work₀ body scan₀ count₀ work scan count = body - scan.at
 
 pub note_spec : {M : Type 1} → statement M
@@ -21,19 +21,19 @@ note_spec =
     invariant-loop
     decreases-loop
     (λ c κs. search rules)
-    (λ c. noting_begin c.before.before.before.requires.0 c.before.before.before.requires.1 c.before.before.before.requires.2 c.before.before.before.requires.3 c.beginning.ensures)
+    (λ c. noting_begin c.requires.0 c.requires.1 c.requires.2 c.requires.3 c.beginning-scan.ensures)
     (λ c κs. search rules)
     (λ c. search rules)
-    (λ c. noting_reads c.before.before.before.before.loop.invariant c.before.before.if1.true c.before.wide.ensures)
-    (λ c κs. noting_small c.before.before.before.before.loop.invariant c.before.before.if1.true)
+    (λ c. noting_reads c.loop-scan.invariant c.loop-scan-test.true c.wide.ensures)
+    (λ c κs. noting_small c.loop-scan.invariant c.loop-scan-test.true)
     (λ c κs. search rules)
-    (λ c κs. passed_asked c.before.before.before.before.before.before.before.loop.invariant c.before.before.before.before.before.if1.true c.before.before.before.before.wide.ensures c.before.before.past.ensures)
-    (λ c. passed_less c.before.before.before.before.before.before.before.before.loop.invariant c.before.before.before.before.before.before.if1.true c.before.before.before.before.before.wide.ensures c.before.before.before.past.ensures c.past-plain.ensures)
-    (λ c. passed_on c.before.before.before.before.before.before.before.before.loop.invariant c.before.before.before.before.before.before.if1.true c.before.before.before.before.before.wide.ensures c.before.before.before.past.ensures c.past-plain.ensures c.before.before.kind.ensures c.before.if2.true)
-    (λ c κs. noting_literal c.before.before.before.before.before.before.before.before.loop.invariant c.before.before.before.before.before.before.if1.true c.before.before.before.before.before.wide.ensures c.before.before.kind.ensures c.before.if2.false)
-    (λ c. let low = noting_count c.before.before.before.before.before.before.before.before.before.before.before.loop.invariant c.before.before.before.before.before.before.before.before.before.if1.true c.before.before.before.before.before.before.before.before.wide.ensures c.before.before.before.before.before.kind.ensures c.before.before.before.before.if2.false in search rules)
-    (λ c. noting_less c.before.before.before.before.before.before.before.before.before.before.before.loop.invariant c.before.before.before.before.before.before.before.before.before.if1.true c.before.before.before.before.before.before.before.before.wide.ensures c.before.before.before.before.before.before.past.ensures)
-    (λ c. noting_on c.before.before.before.before.before.before.before.before.before.before.before.loop.invariant c.before.before.before.before.before.before.before.before.before.if1.true c.before.before.before.before.before.before.before.before.wide.ensures c.before.before.before.before.before.kind.ensures c.before.before.before.before.if2.false c.before.before.before.before.before.before.past.ensures c.before.before.note-literal.ensures)
-    (λ c. omega (arith, c.before.before.loop.invariant.size))
-    (λ c. simp length-set (c.before.before.loop.invariant.size ∙ sym c.before.before.before.before.before.before.requires.0))
-    (λ c. noting_end c.before.before.loop.invariant (omega (arith, c.if1.false))))
+    (λ c κs. passed_asked c.loop-scan.invariant c.loop-scan-test.true c.wide.ensures c.past-scan.ensures)
+    (λ c. passed_less c.loop-scan.invariant c.loop-scan-test.true c.wide.ensures c.past-scan.ensures c.past_plain-scan.ensures)
+    (λ c. passed_on c.loop-scan.invariant c.loop-scan-test.true c.wide.ensures c.past-scan.ensures c.past_plain-scan.ensures c.kind.ensures c.if-kind-ne2.true)
+    (λ c κs. noting_literal c.loop-scan.invariant c.loop-scan-test.true c.wide.ensures c.kind.ensures c.if-kind-ne2.false)
+    (λ c. let low = noting_count c.loop-scan.invariant c.loop-scan-test.true c.wide.ensures c.kind.ensures c.if-kind-ne2.false in search rules)
+    (λ c. noting_less c.loop-scan.invariant c.loop-scan-test.true c.wide.ensures c.past-scan.ensures)
+    (λ c. noting_on c.loop-scan.invariant c.loop-scan-test.true c.wide.ensures c.kind.ensures c.if-kind-ne2.false c.past-scan.ensures c.note_literal.ensures)
+    (λ c. omega (arith, c.loop-scan.invariant.size))
+    (λ c. simp length-set (c.loop-scan.invariant.size ∙ sym c.requires.0))
+    (λ c. noting_end c.loop-scan.invariant (omega (arith, c.loop-scan-test.false))))

@@ -6,10 +6,10 @@ use Rattle.index.proofs.scanning.next.Tie as tie
 
 ruleset all = (rules, sought_begin, sought_done, sought_reads, sought_small, sought_found, sought_low, sought_less, sought_on)
 
-abbrev invariant-loop : tie.invariant-loop
+abbrev invariant-loop : tie.invariant-loop-scan
 invariant-loop file body wanted scan₀ scan = Sought file body wanted scan₀ scan
 
-abbrev decreases-loop : tie.decreases-loop
+abbrev decreases-loop : tie.decreases-loop-scan
 decreases-loop file body wanted scan₀ scan = body - scan.at
 
 pub next_spec : {M : Type 1} → statement M
