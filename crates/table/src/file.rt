@@ -23,7 +23,7 @@ fn refused(status: u32, place: usize) -> Judgement
 }
 
 // A body read: what its clauses come to, and the fingerprint of all its words.
-#[derive(Drop)]
+#[derive(Clone, Copy)]
 struct BodyRead {
     judged: Judgement,
     fingerprint: u32,

@@ -6,7 +6,7 @@ pub mod file;
 pub mod read;
 
 // The judgement of a file: status and place as document 01 numbers them; of an accepted file the number of clauses and where the question begins.
-#[derive(Drop)]
+#[derive(Clone, Copy)]
 pub struct Judgement {
     pub status: u32,
     pub place: u32,

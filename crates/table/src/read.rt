@@ -7,7 +7,7 @@ ghost use Rattle.table.specs.Readers.{TermRead, TermsRead, LiteralRead, Literals
 use words::{fields, fingerprint};
 
 // What reading from a place gives: the place where the reading goes on and the fingerprint up to it, or the place of the first wrong word.
-#[derive(Drop)]
+#[derive(Clone, Copy)]
 pub(crate) enum Reading {
     Next(usize, u32),
     Wrong(usize),
@@ -153,7 +153,7 @@ fn place_read(r: Reading) -> usize
 }
 
 // What judging a clause gives: the number of its words and the fingerprint up to its last, or the place of its first fault.
-#[derive(Drop)]
+#[derive(Clone, Copy)]
 pub(crate) enum ClauseRead {
     Whole(usize, u32),
     Malformed(usize),

@@ -11,7 +11,7 @@ ghost use Rattle.unification.specs.Thorough.{spare_of, link_at, mark_at, Down, R
 use crate::{memory, terms};
 use words::fields;
 
-#[derive(Drop)]
+#[derive(Clone, Copy)]
 pub enum Meeting {
     Made,
     Clash,

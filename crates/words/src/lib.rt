@@ -7,7 +7,7 @@ pub mod fingerprint;
 pub mod steps;
 
 // A step is a reduction with its height, an extension with its clause and literal, or a restart (order 11); any other word is malformed.
-#[derive(Drop)]
+#[derive(Clone, Copy)]
 pub enum Step {
     Reduction(u32),
     Extension(u32, u32),

@@ -1,5 +1,5 @@
 use native.Mathlib.Omega.{arith}
-use Rattle.tableaux.proofs.Extending.{extend_small, extend_meets, extend_stopped, extend_some, extend_under, extend_went_on, not_made}
+use Rattle.tableaux.proofs.Extending.{extend_small, extend_meets, extend_stopped, extend_some, extend_under, extend_went_on}
 use borrow.Author.Rules.{rules}
 use Rattle.tableaux.proofs.tableau.extend.Statement.{statement}
 use Rattle.tableaux.proofs.tableau.extend.Tie as tie
@@ -11,13 +11,13 @@ extend_spec =
     (λ c κs. search rules)
     (λ c κs. search rules)
     (λ c. search rules)
-    (λ c. let small = extend_small c.before.before.before.before.before.before.before.before.before.requires c.before.before.before.before.before.before.before.before.before.args.step in record { fits = omega (arith, c.before.before.before.before.before.open-copy.ensures.0) })
-    (λ c κs. extend_meets c.before.before.before.before.before.before.before.before.before.requires c.before.before.before.before.before.before.before.before.before.args.step c.before.before.before.before.before.open-copy.ensures c.before.literal-of.ensures)
+    (λ c. let small = extend_small c.requires c.args.step in record { fits = omega (arith, c.open_copy-copy.ensures.0) })
+    (λ c κs. extend_meets c.requires c.args.step c.open_copy-copy.ensures c.literal_of-literal.ensures)
     (λ c. search rules)
     (λ c. search rules)
-    (λ c. extend_stopped c.before.before.before.before.before.before.before.before.before.before.before.before.before.requires c.before.before.before.before.before.before.before.before.before.before.before.before.before.args.step c.before.before.before.before.before.before.before.before.before.open-copy.ensures c.before.before.before.before.before.literal-of.ensures c.before.before.before.meet-entered.ensures (not_made _ c.match.keys2))
+    (λ c. extend_stopped c.requires c.args.step c.open_copy-copy.ensures c.literal_of-literal.ensures c.meet_entered-met.ensures c.in_default.not-Made)
     (λ c κs. search rules)
-    (λ c. extend_some c.before.before.before.before.before.before.before.before.before.before.before.before.before.before.before.requires c.before.before.before.before.before.before.before.before.before.before.before.before.before.before.before.args.step c.before.before.before.before.before.before.before.before.before.before.before.open-copy.ensures c.before.before.before.before.before.before.before.literal-of.ensures c.before.before.before.before.before.meet-entered.ensures c.literals_at.ensures)
-    (λ c κs. extend_under c.before.before.before.before.before.before.before.before.before.before.before.before.before.before.before.before.requires c.before.before.before.before.before.before.before.before.before.before.before.before.before.before.before.before.args.step c.before.before.before.before.before.before.before.before.before.before.before.before.open-copy.ensures c.before.before.before.before.before.before.before.before.literal-of.ensures c.before.before.before.before.before.before.meet-entered.ensures c.before.literals_at.ensures)
+    (λ c. extend_some c.requires c.args.step c.open_copy-copy.ensures c.literal_of-literal.ensures c.meet_entered-met.ensures c.literals_at-others.ensures)
+    (λ c κs. extend_under c.requires c.args.step c.open_copy-copy.ensures c.literal_of-literal.ensures c.meet_entered-met.ensures c.literals_at-others.ensures)
     (λ c. search rules)
-    (λ c. extend_went_on c.before.before.before.before.before.before.before.before.before.before.before.before.before.before.before.before.before.before.before.requires c.before.before.before.before.before.before.before.before.before.before.before.before.before.before.before.before.before.before.before.args.step c.before.before.before.before.before.before.before.before.before.before.before.before.before.before.before.open-copy.ensures c.before.before.before.before.before.before.before.before.before.before.before.literal-of.ensures c.before.before.before.before.before.before.before.before.before.meet-entered.ensures c.before.before.hang_under.ensures))
+    (λ c. extend_went_on c.requires c.args.step c.open_copy-copy.ensures c.literal_of-literal.ensures c.meet_entered-met.ensures c.hang_under.ensures))

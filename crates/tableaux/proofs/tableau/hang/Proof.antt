@@ -7,11 +7,11 @@ use Rattle.tableaux.proofs.tableau.hang.Tie as tie
 
 ruleset all = (rules, hang_laws)
 
-abbrev invariant-loop : tie.invariant-loop
+abbrev invariant-loop : tie.invariant-loop-left
 invariant-loop file work₀ start copy entered count parent rest leaves offset₀ left₀ work offset left =
     Going file start copy entered parent rest leaves work₀ work offset left
 
-abbrev decreases-loop : tie.decreases-loop
+abbrev decreases-loop : tie.decreases-loop-left
 decreases-loop file work₀ start copy entered count parent rest leaves offset₀ left₀ work offset left = 256 - offset
 
 pub hang_spec : {M : Type 1} → statement M
@@ -29,7 +29,7 @@ hang_spec =
     (λ c. search all)
     (λ c κs. search all)
     (λ c. search all)
-    (λ c. going_past c.before.before.before.before.before.before.loop.invariant c.before.before.before.before.before.loop-test.true c.before.before.before.before.wide.ensures c.before.before.before.wide2.ensures c.before.hangs.ensures (not-true _ c.if1.true))
+    (λ c. going_past c.loop-left.invariant c.loop-left-test.true c.wide.ensures c.wide-in-loop-left.ensures c.hangs.ensures c.if-not-hangs.true)
     (λ c. search all)
     (λ c. search all)
     (λ c. search all)
@@ -37,6 +37,6 @@ hang_spec =
     (λ c κs. search all)
     (λ c κs. search all)
     (λ c. search all)
-    (λ c. let turn = c.before.before.before.before.before.before.before.before.before.before in going_on turn.before.loop.invariant turn.loop-test.true c.before.before.before.before.before.before.before.before.before.wide.ensures c.before.before.before.before.before.before.before.before.wide2.ensures c.before.before.before.before.before.before.hangs.ensures (not-false _ c.before.before.before.before.before.if1.false) c.before.before.before.next_of.ensures c.before.before.note.ensures)
+    (λ c. let turn = c in going_on turn.loop-left.invariant turn.loop-left-test.true c.wide.ensures c.wide-in-loop-left.ensures c.hangs.ensures c.if-not-hangs.false c.next_of.ensures c.note.ensures)
     (λ c. search all)
     (λ c. search all))

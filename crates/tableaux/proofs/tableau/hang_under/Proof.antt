@@ -13,4 +13,4 @@ hang_under_spec =
     (λ c. search rules)
     (λ c. search rules)
     (λ c. search rules)
-    (λ c. let args = c.before.before.before.before.before.before.before.before.before.before.args in let counted = c.before.before.before.before.before.before.before.before.before.before.requires.1 in (place_is args.file.now args.work.now args.place args.start args.copy args.offset counted c.before.before.before.before.before.before.right_of.ensures c.before.next_of.ensures, work_is args.file.now args.work.now args.place args.start args.copy args.offset counted c.before.before.before.before.before.before.right_of.ensures c.before.before.before.before.hang.ensures)))
+    (λ c. let args = c.args in let counted = c.requires.1 in (place_is args.file.now args.work.now args.place args.start args.copy args.offset counted c.right_of-rest.ensures c.next_of.ensures, work_is args.file.now args.work.now args.place args.start args.copy args.offset counted c.right_of-rest.ensures c.hang.ensures)))

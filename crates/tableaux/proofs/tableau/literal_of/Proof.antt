@@ -5,4 +5,4 @@ use Rattle.tableaux.proofs.tableau.literal_of.Tie as tie
 pub literal_of_spec : {M : Type 1} → statement M
 literal_of_spec =
     tie.close
-    (tie.spec (λ c. search rules) (λ c κs. search rules) (λ c. search rules) (λ c. search rules) (λ c. search rules) (λ c. rw c.before.wide.ensures))
+    (tie.spec (λ c. search rules) (λ c κs. search rules) (λ c. search rules) (λ c. search rules) (λ c. search rules) (λ c. rw c.wide.ensures))

@@ -7,7 +7,7 @@ use Rattle.tableaux.proofs.tableau.note.Tie as tie
 
 returns : tie.Need-returns
 unfolding noted
-returns c = rw c.wide.ensures
+returns c = rw c.wide-at.ensures
 
 pub note_spec : {M : Type 1} → statement M
 note_spec =

@@ -16,4 +16,4 @@ open_copy_spec =
     (λ c. search rules)
     (λ c. search rules)
     (λ c. search rules)
-    (λ c. (refl, rw (c.wide.ensures, c.before.before.before.note_step.ensures))))
+    (λ c. (refl, rw (c.wide.ensures, c.note_step.ensures))))

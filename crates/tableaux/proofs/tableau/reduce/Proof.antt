@@ -9,8 +9,8 @@ reduce_spec =
     (tie.spec
     (λ c κs. search rules)
     (λ c κs. search rules)
-    (λ c κs. let entry = c.before.before.before.before.before.before.before in reduce_small entry.requires entry.args.step)
-    (λ c κs. let entry = c.before.before.before.before.before.before.before.before.before.before.before in reduce_meets entry.requires entry.args.step c.before.before.before.note_step.ensures c.before.before.before.before.before.before.before.literal-of.ensures)
+    (λ c κs. let entry = c in reduce_small entry.requires entry.args.step)
+    (λ c κs. let entry = c in reduce_meets entry.requires entry.args.step c.note_step.ensures c.literal_of-literal.ensures)
     (λ c. search rules)
     (λ c. search rules)
-    (λ c. let entry = c.before.before.before.before.before.before.before.before.before.before.before.before.before.before.before in reduced_as entry.requires entry.args.step c.before.before.before.before.before.before.before.note_step.ensures c.before.before.before.before.before.before.before.before.before.before.before.literal-of.ensures c.before.before.before.before.before.before.before.before.before.right_of.ensures c.before.before.before.meet-atoms.ensures))
+    (λ c. let entry = c in reduced_as entry.requires entry.args.step c.note_step.ensures c.literal_of-literal.ensures c.right_of-rest.ensures c.meet_atoms.ensures))

@@ -9,6 +9,6 @@ restart_spec =
     (tie.spec
     (λ c κs. search rules)
     (λ c κs. search rules)
-    (λ c κs. let entry = c.before.before.before.before.before.before.before.before in restart_under entry.requires entry.args.step c.before.before.before.before.open-copy.ensures c.before.literals_at.ensures)
+    (λ c κs. let entry = c in restart_under entry.requires entry.args.step c.open_copy-copy.ensures c.literals_at-count.ensures)
     (λ c. search rules)
-    (λ c. let entry = c.before.before.before.before.before.before.before.before.before.before.before in restarted_as entry.requires entry.args.step c.before.before.before.before.before.before.before.open-copy.ensures c.before.before.hang_under.ensures))
+    (λ c. let entry = c in restarted_as entry.requires entry.args.step c.open_copy-copy.ensures c.hang_under.ensures))
