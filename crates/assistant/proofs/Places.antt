@@ -1,12 +1,10 @@
 -- Lines, columns and bytes shown, one law for each outcome, with premises as the code has them.
-use mathlib.Core.Path.{◌≡◌, refl, sym, ap, ◌∙◌}
-use mathlib.Core.Bool.{Bool, true, false, not, cond}
-use mathlib.Core.List.{List, [], ◌∷◌, ◌++◌}
-use Prim.Native.Nat.{ℕ, zero, suc, ◌+◌, ◌-◌, ◌≤◌, ◌<◌, min}
+use mathlib.Core.Path.{◌≡◌, refl, sym, ◌∙◌}
+use mathlib.Core.Bool.{Bool, true, false, not}
+use mathlib.Core.List.{List, [], ◌∷◌}
+use Prim.Native.Nat.{ℕ, zero, suc, ◌+◌, ◌-◌, ◌≤◌, ◌<◌}
 use native.Mathlib.Omega.{arith}
-use native.Mathlib.Numerals.{add-one}
-use lib.Dec.{eqb, ltb}
-use lib.ListN.{length, take, drop, get_or, replicate, drop_of_length-le}
+use lib.ListN.{length, drop, get_or, replicate, drop_of_length-le}
 use borrow.Author.Tests.{eq-eqb, ne_eqb, lt-ltb, le-ltb}
 use Rattle.text.specs.Put.{Put}
 use Rattle.text.specs.Quoted.{bytes}
@@ -16,7 +14,6 @@ use Rattle.text.proofs.Written.{from_place}
 use Rattle.clausetext.specs.Kinds.{kind_of, goes_on}
 use Rattle.clausetext.specs.declared.kind.Kind.{Kind}
 use Rattle.names.specs.Noting.{name_from}
-use Rattle.assistant.specs.declared.place.Position.{Position}
 use Rattle.assistant.specs.Place.{line_from, column_from, position_of, figure_text, shown_byte, shown_line, shown_before}
 
 -- how far lines and columns have been counted

@@ -1,5 +1,5 @@
 -- Lines and columns, and the bytes around a place as they are shown.
-use Rattle.std.specs.Prelude.{cond, ◌&&◌, List, [], ◌∷◌, ◌++◌, ℕ, ◌+◌, ◌-◌, min, eqb, leb, ltb, length, take, drop, replicate}
+use Rattle.std.specs.Prelude.{cond, List, [], ◌∷◌, ◌++◌, ℕ, ◌+◌, ◌-◌, min, eqb, ltb, length, take, drop, replicate}
 use Rattle.text.specs.Quoted.{bytes}
 use Rattle.text.specs.Digits.{decimal_text}
 use Rattle.assistant.specs.declared.place.Position.{Position}

@@ -2,8 +2,6 @@
 use mathlib.Core.Bool.{true, false}
 use mathlib.Core.List.{List, [], ◌∷◌}
 use mathlib.Core.Path.{◌≡◌, refl}
-use Prim.Native.Nat.{ℕ}
-use Rattle.words.specs.Fields.{bits, plain, kind_of}
 use Rattle.words.specs.Steps.{step_of, encoded, well_formed, step_word}
 use Rattle.names.specs.Numbers.{Name}
 use Rattle.requests.specs.Pieces.{digit_of, up_to, value_from, number_of, word_of, same_bytes}

@@ -1,14 +1,13 @@
 -- Numbers and words written and read again.
 use mathlib.Core.Bool.{Bool, true, false, cond, ◌&&◌}
 use mathlib.Core.List.{List, [], ◌∷◌}
-use mathlib.Core.Option.{Option, none, some}
+use mathlib.Core.Option.{some}
 use mathlib.Core.Path.{◌≡◌, refl, sym, ap, ◌∙◌}
-use Prim.Native.Nat.{ℕ, zero, suc, ◌+◌, ◌-◌, ◌*◌, ◌/◌, ◌%◌, ◌^◌, ◌≤◌, ◌<◌}
+use Prim.Native.Nat.{ℕ, zero, suc, ◌+◌, ◌*◌, ◌/◌, ◌%◌, ◌^◌, ◌≤◌, ◌<◌}
 use native.Mathlib.Omega.{arith}
 use borrow.Author.Tests.{le-ltb, lt-leb, eqb-true, eqb-false}
-use lib.Dec.{eqb, leb, ltb}
-use lib.ListN.{length}
-use Rattle.requests.specs.Pieces.{digit_of, value_from, number_of, word_of, up_to}
+use lib.Dec.{eqb, ltb}
+use Rattle.requests.specs.Pieces.{digit_of, value_from, number_of, up_to}
 use Rattle.text.specs.Digits.{glyph_of, digits_of, significant, decimal_text, hex_text}
 use Rattle.written_proofs.specs.Steps.{begins}
 use Rattle.written_proofs.specs.Reading.{number_said}

@@ -1,19 +1,15 @@
 -- Pieces and what they do: one law for each outcome of the code, with premises as the code has them.
 use mathlib.Core.Bool.{Bool, true, false, cond}
-use mathlib.Core.List.{List, [], ◌∷◌, ◌++◌}
-use mathlib.Core.Option.{Option, none, some}
+use mathlib.Core.List.{List, [], ◌∷◌}
 use mathlib.Core.Path.{◌≡◌, refl, sym, ap, ◌∙◌}
-use Prim.Native.Nat.{ℕ, zero, suc, ◌+◌, ◌-◌, ◌≤◌, ◌<◌, ◌^◌}
+use Prim.Native.Nat.{ℕ, zero, suc, ◌+◌, ◌-◌, ◌≤◌, ◌<◌}
 use native.Mathlib.Numerals.{add-one}
 use native.Mathlib.Omega.{arith}
-use mir.Syntax.{w64}
-use mir.Val.{Fits}
 use borrow.Author.Tests.{lt-ltb, le-ltb, le-leb, lt-leb, eq-eqb, ne_eqb}
-use lib.Dec.{eqb, leb, ltb}
 use lib.ListN.{length, take, drop, get_or, length-drop, drop_of_length-le}
 use lib.Seq.{drop-drop}
 use Rattle.words.specs.declared.Step.{Step}
-use Rattle.words.specs.declared.Step.TheVariants.{Reduction, Extension, Malformed}
+use Rattle.words.specs.declared.Step.TheVariants.{Reduction, Extension}
 use Rattle.words.specs.Steps.{encoded}
 use Rattle.names.specs.Numbers.{Name}
 use Rattle.requests.specs.Pieces.{same_bytes, number_of, number_at, word_of, word_at, decimal_at, next_at, up_to, piece_at}
@@ -24,7 +20,7 @@ use Rattle.text.specs.Put.{Put}
 use Rattle.text.proofs.Putting.{Left, begin, further, finish}
 use Rattle.text.proofs.Written.{from_place}
 use Rattle.written_proofs.specs.Steps.{names_of, begins, only, steps_text}
-use Rattle.written_proofs.specs.Reading.{blank, piece, Piece, pieces_from, number_said, clause_said, step_made, clause_made, verb_turn, turn, Read, complete, went, reads, read_proof, Told}
+use Rattle.written_proofs.specs.Reading.{blank, piece, pieces_from, number_said, clause_said, step_made, clause_made, verb_turn, turn, complete, reads, read_proof, Told}
 use Rattle.written_proofs.specs.declared.read.Awaited.{Awaited}
 use Rattle.written_proofs.specs.declared.read.Awaited.TheVariants.{Step as step, Height, Clause, Literal}
 use Rattle.written_proofs.specs.declared.read.Turn.{Turn}

@@ -1,32 +1,30 @@
 -- What is written of a list of words is read as that list.
-use mathlib.Core.Bool.{Bool, true, false, cond, ◌&&◌}
+use mathlib.Core.Bool.{Bool, true, false, cond}
 use mathlib.Core.List.{List, [], ◌∷◌, ◌++◌, append_assoc}
-use mathlib.Core.Option.{Option, none, some}
+use mathlib.Core.Option.{some}
 use mathlib.Core.Path.{◌≡◌, refl, sym, ap, ◌∙◌}
-use Prim.Native.Nat.{ℕ, zero, suc, ◌+◌, ◌/◌, ◌%◌, ◌≤◌, ◌<◌, ◌^◌}
+use Prim.Native.Nat.{ℕ, zero, suc, ◌+◌, ◌/◌, ◌%◌, ◌<◌, ◌^◌}
 use native.Mathlib.Omega.{arith}
 use borrow.Author.Tests.{ltb-true, leb-true, eqb-true, lt-leb, lt-ltb, ne_eqb, ltb-false}
 use lib.Dec.{eqb, leb, ltb}
-use lib.ListN.{length, take, drop, get_or}
+use lib.ListN.{length, take, drop}
 use Rattle.words.specs.declared.Step.{Step}
 use Rattle.words.specs.declared.Step.TheVariants.{Reduction, Extension, Restart, Malformed}
 use Rattle.words.specs.Steps.{step_of, encoded, well_formed}
 use Rattle.words.proofs.Roundtrip.{decoded, encode_decode}
 use Rattle.clausetext.specs.Kinds.{kind_of, sign_kind, letter_kind}
 use Rattle.names.specs.Numbers.{Name}
-use Rattle.names.specs.Noting.{name_byte, name_from, name_at}
+use Rattle.names.specs.Noting.{name_byte, name_from}
 use Rattle.text.specs.Quoted.{bytes}
 use Rattle.text.specs.Digits.{glyph_of, digits_of, decimal_text, hex_text}
 use Rattle.table.specs.Limits.{Each, Words}
 use Rattle.requests.specs.Pieces.{same_bytes, number_of, word_of, up_to}
 use Rattle.requests.proofs.Lists.{same_lengths}
 use Rattle.written_proofs.specs.Steps.{names_of, name_of, begins, only, tells, clause_text, extension_text, text_of, step_text, steps_text}
-use Rattle.written_proofs.specs.Reading.{blank, piece, Piece, pieces_from, number_said, clause_said, step_made, clause_made, verb_turn, turn, complete, reads, read_proof}
+use Rattle.written_proofs.specs.Reading.{blank, piece, pieces_from, clause_said, step_made, clause_made, verb_turn, turn, complete, reads, read_proof}
 use Rattle.written_proofs.specs.Promises.{ReadsBack}
-use Rattle.written_proofs.specs.declared.read.Awaited.{Awaited}
-use Rattle.written_proofs.specs.declared.read.Awaited.TheVariants.{Step as step, Height, Clause, Literal}
-use Rattle.written_proofs.specs.declared.read.Turn.{Turn}
-use Rattle.written_proofs.specs.declared.read.Turn.TheVariants.{Awaits, Makes, Wrong}
+use Rattle.written_proofs.specs.declared.read.Awaited.TheVariants.{Step as step, Height, Clause}
+use Rattle.written_proofs.specs.declared.read.Turn.TheVariants.{Awaits, Makes}
 use Rattle.written_proofs.proofs.Numerals.{and_left, and_right, solid, some_bytes, all_below, below, number_back, number_solid, number_begins, hex_value}
 
 -- a solid piece before a blank

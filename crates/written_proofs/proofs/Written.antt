@@ -1,11 +1,10 @@
 -- Steps written: one law for each outcome of the code, with premises as the code has them.
 use mathlib.Core.Bool.{Bool, true, false}
 use mathlib.Core.List.{List, [], ◌∷◌, ◌++◌}
-use mathlib.Core.Path.{◌≡◌, sym, ap, ◌∙◌}
+use mathlib.Core.Path.{◌≡◌, ap, ◌∙◌}
 use Prim.Native.Nat.{ℕ, ◌+◌, ◌≤◌, ◌<◌}
-use borrow.Author.Tests.{eq-eqb, ne_eqb}
 use lib.Dec.{eqb}
-use lib.ListN.{length, take, drop, get_or, drop_of_length-le}
+use lib.ListN.{length, drop, get_or, drop_of_length-le}
 use Rattle.words.specs.declared.Step.{Step}
 use Rattle.words.specs.declared.Step.TheVariants.{Reduction, Extension, Restart, Malformed}
 use Rattle.words.specs.Steps.{step_of}
@@ -15,7 +14,7 @@ use Rattle.text.specs.Quoted.{bytes}
 use Rattle.text.specs.Digits.{decimal_text, hex_text}
 use Rattle.text.proofs.Putting.{Left, begin, further, finish, then as joined}
 use Rattle.text.proofs.Written.{from_place}
-use Rattle.written_proofs.specs.Steps.{name_of, begins, only, tells, clause_text, extension_text, text_of, step_text, steps_text}
+use Rattle.written_proofs.specs.Steps.{name_of, begins, only, tells, clause_text, extension_text, step_text, steps_text}
 
 named : (ns : List Name) {i k : ℕ} → k ≡ i → {n : List ℕ} → n ≡ name_of ns k → n ≡ name_of ns i
 named ns ek en = en ∙ ap (λ (x : ℕ). name_of ns x) ek

@@ -1,9 +1,9 @@
 -- A proof read from text: pieces separated by blanks. A piece that is `reduce` awaits a height, `extend` a clause and then a literal;
 -- another is a step's word in one to eight hexadecimal digits. The first piece that is not what is awaited is wrong.
-use Rattle.std.specs.Prelude.{Bool, true, false, cond, List, [], ◌∷◌, ◌≡◌, ℕ, zero, suc, eqb, leb, ltb, length}
+use Rattle.std.specs.Prelude.{Bool, true, false, cond, List, [], ◌∷◌, ◌≡◌, ℕ, suc, eqb, leb, ltb, length}
 use Rattle.std.proofs.Math.Option.{Option, none, some}
 use Rattle.words.specs.declared.Step.{Step}
-use Rattle.words.specs.declared.Step.TheVariants.{Reduction, Extension, Malformed}
+use Rattle.words.specs.declared.Step.TheVariants.{Reduction, Extension}
 use Rattle.words.specs.Steps.{encoded}
 use Rattle.names.specs.Numbers.{Name}
 use Rattle.requests.specs.Pieces.{same_bytes, piece as upToSpace, number_of, word_of}

@@ -1,6 +1,6 @@
 -- A proof as text, a step a line: `reduce 1`, a height; `extend NAME 2`, a clause by its name and the number of its literal, from 0 as in the step's word.
 -- A clause whose name stands more than once is told by its number.
-use Rattle.std.specs.Prelude.{Bool, true, false, cond, ◌&&◌, List, [], ◌∷◌, ◌++◌, ℕ, zero, suc, eqb, ltb, get_or}
+use Rattle.std.specs.Prelude.{Bool, true, false, cond, List, [], ◌∷◌, ◌++◌, ℕ, suc, eqb, ltb, get_or}
 use Rattle.words.specs.declared.Step.{Step}
 use Rattle.words.specs.declared.Step.TheVariants.{Reduction, Extension, Restart, Malformed}
 use Rattle.words.specs.Steps.{step_of}

@@ -11,7 +11,7 @@ use words::Step;
 use words::steps::encode;
 
 // What a piece of the text is to be.
-#[derive(Drop)]
+#[derive(Clone, Copy)]
 pub enum Awaited {
     Step,
     Height,

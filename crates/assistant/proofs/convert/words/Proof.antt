@@ -9,10 +9,10 @@ use Rattle.assistant.proofs.convert.words.Tie as tie
 
 ruleset all = (rules, words_laws)
 
-abbrev invariant-loop : tie.invariant-loop
+abbrev invariant-loop : tie.invariant-loop-i
 invariant-loop out₀ from list at₀ i₀ out at i = Left out₀ from (bytes_of list) out at (bytes_of (drop i list))
 
-abbrev decreases-loop : tie.decreases-loop
+abbrev decreases-loop : tie.decreases-loop-i
 decreases-loop out₀ from list at₀ i₀ out at i = length list - i
 
 pub words_spec : {M : Type 1} → statement M

@@ -5,28 +5,25 @@ use Rattle.assistant.proofs.excerpt.around.Tie as tie
 
 ruleset all = (rules, around_is)
 
-sub-after : tie.Need-overflow-sub-after
+sub-after : tie.Need-overflow_sub-before
 sub-after c = search rules
 
-after-requires : tie.Need-after-requires
+after-requires : tie.Need-after-near-requires
 after-requires c κs = search rules
 
-front-bytes-requires : tie.Need-front-bytes-requires
+front-bytes-requires : tie.Need-front_bytes-far-requires
 front-bytes-requires c κs = search rules
 
-slice-aggregate-bytes : tie.Need-slice-aggregate-bytes
-slice-aggregate-bytes c = search rules
-
-bytes-requires : tie.Need-bytes-requires
+bytes-requires : tie.Need-bytes-a-requires
 bytes-requires c κs = search rules
 
-show-requires : tie.Need-show-requires
+show-requires : tie.Need-show-b-requires
 show-requires c κs = search rules
 
-show-requires-2 : tie.Need-show-requires-2
+show-requires-2 : tie.Need-show-requires
 show-requires-2 c κs = search rules
 
-same_length : tie.Need-same-length
+same_length : tie.Need-shape_of-out
 same_length c = search rules
 
 returns : tie.Need-returns
@@ -39,7 +36,6 @@ around_spec =
     sub-after
     after-requires
     front-bytes-requires
-    slice-aggregate-bytes
     bytes-requires
     show-requires
     show-requires-2

@@ -5,16 +5,16 @@ use Rattle.assistant.proofs.excerpt.excerpt.Tie as tie
 
 ruleset all = (rules, excerpt_is)
 
-shown-before-requires : tie.Need-shown-before-requires
+shown-before-requires : tie.Need-shown_before-back-requires
 shown-before-requires c κs = search rules
 
-around-requires : tie.Need-around-requires
+around-requires : tie.Need-around-a-requires
 around-requires c κs = search rules
 
 mark-requires : tie.Need-mark-requires
 mark-requires c κs = search rules
 
-same_length : tie.Need-same-length
+same_length : tie.Need-shape_of-out
 same_length c = search rules
 
 returns : tie.Need-returns

@@ -1,6 +1,6 @@
 use borrow.Author.Rules.{rules}
 use Prim.Native.Nat.{◌-◌}
-use lib.ListN.{length, drop, replicate}
+use lib.ListN.{length, drop}
 use Rattle.text.proofs.Putting.{Left}
 use Rattle.assistant.proofs.Places.{show_laws}
 use Rattle.assistant.specs.Place.{shown_line}
@@ -9,43 +9,43 @@ use Rattle.assistant.proofs.excerpt.show.Tie as tie
 
 ruleset all = (rules, show_laws)
 
-abbrev invariant-loop : tie.invariant-loop
+abbrev invariant-loop : tie.invariant-loop-i
 invariant-loop out₀ from own at₀ i₀ out at i = Left out₀ from (shown_line own) out at (shown_line (drop i own))
 
-abbrev decreases-loop : tie.decreases-loop
+abbrev decreases-loop : tie.decreases-loop-i
 decreases-loop out₀ from own at₀ i₀ out at i = length own - i
 
-loop-holds : tie.Need-loop-init invariant-loop decreases-loop
+loop-holds : tie.Need-loop-i-init invariant-loop decreases-loop
 loop-holds c = search all
 
-shared-slice-read-c : tie.Need-shared-slice-read-c invariant-loop decreases-loop
+shared-slice-read-c : tie.Need-bounds-own-i invariant-loop decreases-loop
 shared-slice-read-c c = search all
 
-same_length : tie.Need-same-length invariant-loop decreases-loop
+same_length : tie.Need-shape_of-out-then-c-eq10 invariant-loop decreases-loop
 same_length c = search all
 
-returns : tie.Need-returns invariant-loop decreases-loop
+returns : tie.Need-returns-then-c-eq10 invariant-loop decreases-loop
 returns c = search all
 
 shown-requires : tie.Need-shown-requires invariant-loop decreases-loop
 shown-requires c κs = search all
 
-byte-requires : tie.Need-byte-requires invariant-loop decreases-loop
+byte-requires : tie.Need-byte-at-requires invariant-loop decreases-loop
 byte-requires c κs = search all
 
-add-i : tie.Need-overflow-add-i invariant-loop decreases-loop
+add-i : tie.Need-overflow_add-i invariant-loop decreases-loop
 add-i c = search all
 
-loop-less : tie.Need-loop-smaller invariant-loop decreases-loop
+loop-less : tie.Need-loop-i-smaller invariant-loop decreases-loop
 loop-less c = search all
 
-loop-again : tie.Need-loop-preserved invariant-loop decreases-loop
+loop-again : tie.Need-loop-i-preserved invariant-loop decreases-loop
 loop-again c = search all
 
-same-length-2 : tie.Need-same-length-2 invariant-loop decreases-loop
+same-length-2 : tie.Need-shape_of-out invariant-loop decreases-loop
 same-length-2 c = search all
 
-returns-2 : tie.Need-returns-2 invariant-loop decreases-loop
+returns-2 : tie.Need-returns invariant-loop decreases-loop
 returns-2 c = search all
 
 pub show_spec : {M : Type 1} → statement M

@@ -5,13 +5,13 @@ use Rattle.assistant.proofs.excerpt.shown.Tie as tie
 
 ruleset all = (rules, shown_laws)
 
-returns : tie.Need-returns
+returns : tie.Need-returns-then-c-lt32
 returns c = search all
 
-returns-2 : tie.Need-returns-2
+returns-2 : tie.Need-returns-then-c-gt126
 returns-2 c = search all
 
-returns-3 : tie.Need-returns-3
+returns-3 : tie.Need-returns
 returns-3 c = search all
 
 pub shown_spec : {M : Type 1} → statement M

@@ -5,28 +5,28 @@ use Rattle.assistant.proofs.place.after.Tie as tie
 
 ruleset all = (rules, part_laws)
 
-sub-result : tie.Need-overflow-sub-result
+sub-result : tie.Need-slice_bounds-result-count
 sub-result c = search rules
 
-part-result-start : tie.Need-slice-bounds-result-start
+part-result-start : tie.Need-slice_bounds-result-start
 part-result-start c = search rules
 
-part-result-end : tie.Need-slice-bounds-result-end
+part-result-end : tie.Need-slice_bounds-result-end
 part-result-end c = search rules
 
-returns : tie.Need-returns
+returns : tie.Need-returns-then-place-text
 returns c = search all
 
-sub-result-2 : tie.Need-overflow-sub-result-2
+sub-result-2 : tie.Need-slice_bounds-result-count-2
 sub-result-2 c = search rules
 
-part-result-start-2 : tie.Need-slice-bounds-result-start-2
+part-result-start-2 : tie.Need-slice_bounds-result-start-2
 part-result-start-2 c = search rules
 
-part-result-end-2 : tie.Need-slice-bounds-result-end-2
+part-result-end-2 : tie.Need-slice_bounds-result-end-2
 part-result-end-2 c = search rules
 
-returns-2 : tie.Need-returns-2
+returns-2 : tie.Need-returns
 returns-2 c = search all
 
 pub after_spec : {M : Type 1} → statement M

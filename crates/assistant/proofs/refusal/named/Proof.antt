@@ -5,13 +5,13 @@ use Rattle.assistant.proofs.refusal.named.Tie as tie
 
 ruleset all = (rules, then)
 
-bytes-requires : tie.Need-bytes-requires
+bytes-requires : tie.Need-bytes-a-requires
 bytes-requires c κs = search rules
 
 question-requires : tie.Need-question-requires
 question-requires c κs = search rules
 
-same_length : tie.Need-same-length
+same_length : tie.Need-shape_of-out
 same_length c = search rules
 
 returns : tie.Need-returns

@@ -5,16 +5,13 @@ use Rattle.assistant.proofs.refusal.over.Tie as tie
 
 ruleset all = (rules, over_is)
 
-bytes-requires : tie.Need-bytes-requires
+bytes-requires : tie.Need-bytes-a-requires
 bytes-requires c κs = search rules
 
-slice-aggregate-bytes : tie.Need-slice-aggregate-bytes
-slice-aggregate-bytes c = search rules
-
-bytes-requires-2 : tie.Need-bytes-requires-2
+bytes-requires-2 : tie.Need-bytes-requires
 bytes-requires-2 c κs = search rules
 
-same_length : tie.Need-same-length
+same_length : tie.Need-shape_of-out
 same_length c = search rules
 
 returns : tie.Need-returns
@@ -22,4 +19,4 @@ returns c = search all
 
 pub over_spec : {M : Type 1} → statement M
 over_spec =
-    tie.close (tie.spec bytes-requires slice-aggregate-bytes bytes-requires-2 same_length returns)
+    tie.close (tie.spec bytes-requires bytes-requires-2 same_length returns)

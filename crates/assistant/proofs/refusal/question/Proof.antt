@@ -5,13 +5,13 @@ use Rattle.assistant.proofs.refusal.question.Tie as tie
 
 ruleset all = (rules, question_is)
 
-question-name-requires : tie.Need-question-name-requires
+question-name-requires : tie.Need-question_name-place-requires
 question-name-requires c κs = search rules
 
-name-at-requires : tie.Need-name-at-requires
+name-at-requires : tie.Need-name_at-requires
 name-at-requires c κs = search rules
 
-same_length : tie.Need-same-length
+same_length : tie.Need-shape_of-out
 same_length c = search rules
 
 returns : tie.Need-returns

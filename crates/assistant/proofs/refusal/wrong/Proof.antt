@@ -8,19 +8,19 @@ ruleset all = (rules, wrong_laws)
 long-requires : tie.Need-long-requires
 long-requires c κs = search rules
 
-same_length : tie.Need-same-length
+same_length : tie.Need-shape_of-out-then-text-gt65536
 same_length c = search rules
 
-returns : tie.Need-returns
+returns : tie.Need-returns-then-text-gt65536
 returns c = search all
 
-wrong-in-requires : tie.Need-wrong-in-requires
+wrong-in-requires : tie.Need-wrong_in-requires
 wrong-in-requires c κs = search rules
 
-same-length-2 : tie.Need-same-length-2
+same-length-2 : tie.Need-shape_of-out
 same-length-2 c = search rules
 
-returns-2 : tie.Need-returns-2
+returns-2 : tie.Need-returns
 returns-2 c = search all
 
 pub wrong_spec : {M : Type 1} → statement M

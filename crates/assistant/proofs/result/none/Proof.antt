@@ -5,28 +5,19 @@ use Rattle.assistant.proofs.result.none.Tie as tie
 
 ruleset all = (rules, none_is)
 
-slice-aggregate-field : tie.Need-slice-aggregate-field
-slice-aggregate-field c = search rules
-
-field-requires : tie.Need-field-requires
+field-requires : tie.Need-field-a-requires
 field-requires c κs = search rules
 
-slice-aggregate-field-2 : tie.Need-slice-aggregate-field-2
-slice-aggregate-field-2 c = search rules
-
-field-requires-2 : tie.Need-field-requires-2
+field-requires-2 : tie.Need-field-b-requires
 field-requires-2 c κs = search rules
 
-slice-aggregate-bytes : tie.Need-slice-aggregate-bytes
-slice-aggregate-bytes c = search rules
-
-bytes-requires : tie.Need-bytes-requires
+bytes-requires : tie.Need-bytes-c-requires
 bytes-requires c κs = search rules
 
 larger-requires : tie.Need-larger-requires
 larger-requires c κs = search rules
 
-same_length : tie.Need-same-length
+same_length : tie.Need-shape_of-out
 same_length c = search rules
 
 returns : tie.Need-returns
@@ -36,11 +27,8 @@ pub none_spec : {M : Type 1} → statement M
 none_spec =
     tie.close
     (tie.spec
-    slice-aggregate-field
     field-requires
-    slice-aggregate-field-2
     field-requires-2
-    slice-aggregate-bytes
     bytes-requires
     larger-requires
     same_length

@@ -5,16 +5,13 @@ use Rattle.assistant.proofs.result.too_long.Tie as tie
 
 ruleset all = (rules, too_long_is)
 
-slice-aggregate-bytes : tie.Need-slice-aggregate-bytes
-slice-aggregate-bytes c = search rules
-
-bytes-requires : tie.Need-bytes-requires
+bytes-requires : tie.Need-bytes-a-requires
 bytes-requires c κs = search rules
 
 cost-requires : tie.Need-cost-requires
 cost-requires c κs = search rules
 
-same_length : tie.Need-same-length
+same_length : tie.Need-shape_of-out
 same_length c = search rules
 
 returns : tie.Need-returns
@@ -22,4 +19,4 @@ returns c = search all
 
 pub too_long_spec : {M : Type 1} → statement M
 too_long_spec =
-    tie.close (tie.spec slice-aggregate-bytes bytes-requires cost-requires same_length returns)
+    tie.close (tie.spec bytes-requires cost-requires same_length returns)

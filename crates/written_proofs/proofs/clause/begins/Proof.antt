@@ -5,13 +5,13 @@ use Rattle.written_proofs.proofs.Names.{name_laws}
 
 ruleset all = (rules, name_laws)
 
-returns : tie.Need-returns
+returns : tie.Need-returns-then-name-eq0
 returns c = search all
 
-shared-slice-read-result : tie.Need-shared-slice-read-result
+shared-slice-read-result : tie.Need-bounds-name-0
 shared-slice-read-result c = search all
 
-returns-2 : tie.Need-returns-2
+returns-2 : tie.Need-returns
 returns-2 c = search all
 
 pub begins_spec : {M : Type 1} → statement M

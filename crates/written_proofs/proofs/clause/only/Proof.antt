@@ -8,13 +8,13 @@ use Rattle.written_proofs.proofs.Names.{seek_laws}
 
 ruleset all = (rules, seek_laws)
 
-abbrev invariant-loop : tie.invariant-loop
+abbrev invariant-loop : tie.invariant-loop-i
 invariant-loop text places own i₀ i = Sought text places own i
 
-abbrev decreases-loop : tie.decreases-loop
+abbrev decreases-loop : tie.decreases-loop-i
 decreases-loop text places own i₀ i = length places - i
 
-loop-holds : tie.Need-loop-init invariant-loop decreases-loop
+loop-holds : tie.Need-loop-i-init invariant-loop decreases-loop
 loop-holds c = search all
 
 name-requires : tie.Need-name-requires invariant-loop decreases-loop
@@ -23,31 +23,31 @@ name-requires c κs = search all
 same-requires : tie.Need-same-requires invariant-loop decreases-loop
 same-requires c κs = search all
 
-add-stands : tie.Need-overflow-add-stands invariant-loop decreases-loop
+add-stands : tie.Need-overflow_add-i invariant-loop decreases-loop
 add-stands c = search all
 
 stands-requires : tie.Need-stands-requires invariant-loop decreases-loop
 stands-requires c κs = search all
 
-returns : tie.Need-returns invariant-loop decreases-loop
+returns : tie.Need-returns-then-stands invariant-loop decreases-loop
 returns c = search all
 
-cast-result : tie.Need-overflow-cast-result invariant-loop decreases-loop
+cast-result : tie.Need-overflow_cast-result invariant-loop decreases-loop
 cast-result c = search all
 
-returns-2 : tie.Need-returns-2 invariant-loop decreases-loop
+returns-2 : tie.Need-returns-then-same invariant-loop decreases-loop
 returns-2 c = search all
 
-add-i : tie.Need-overflow-add-i invariant-loop decreases-loop
+add-i : tie.Need-overflow_add-i-in-loop-i invariant-loop decreases-loop
 add-i c = search all
 
-loop-less : tie.Need-loop-smaller invariant-loop decreases-loop
+loop-less : tie.Need-loop-i-smaller invariant-loop decreases-loop
 loop-less c = search all
 
-loop-again : tie.Need-loop-preserved invariant-loop decreases-loop
+loop-again : tie.Need-loop-i-preserved invariant-loop decreases-loop
 loop-again c = search all
 
-returns-3 : tie.Need-returns-3 invariant-loop decreases-loop
+returns-3 : tie.Need-returns invariant-loop decreases-loop
 returns-3 c = search all
 
 pub only_spec : {M : Type 1} → statement M

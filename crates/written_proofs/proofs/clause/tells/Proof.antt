@@ -11,10 +11,10 @@ begins-requires c κs = search all
 only-requires : tie.Need-only-requires
 only-requires c κs = search all
 
-returns : tie.Need-returns
+returns : tie.Need-returns-then-begins
 returns c = search all
 
-returns-2 : tie.Need-returns-2
+returns-2 : tie.Need-returns
 returns-2 c = search all
 
 pub tells_spec : {M : Type 1} → statement M

@@ -5,13 +5,13 @@ use Rattle.written_proofs.proofs.Pieces.{made_laws}
 
 ruleset all = (rules, made_laws)
 
-encode-requires : tie.Need-encode-requires
+encode-requires : tie.Need-encode-w-requires
 encode-requires c κs = search all
 
-returns : tie.Need-returns
+returns : tie.Need-returns-then-w
 returns c = search all
 
-returns-2 : tie.Need-returns-2
+returns-2 : tie.Need-returns
 returns-2 c = search all
 
 pub made_spec : {M : Type 1} → statement M

@@ -5,10 +5,10 @@ use Rattle.written_proofs.proofs.Pieces.{made_laws}
 
 ruleset all = (rules, made_laws)
 
-returns : tie.Need-returns
+returns : tie.Need-returns-then-clause-lt512
 returns c = search all
 
-returns-2 : tie.Need-returns-2
+returns-2 : tie.Need-returns
 returns-2 c = search all
 
 pub named_spec : {M : Type 1} → statement M

@@ -8,31 +8,31 @@ use Rattle.written_proofs.proofs.Pieces.{end_laws}
 
 ruleset all = (rules, end_laws)
 
-abbrev invariant-loop : tie.invariant-loop
+abbrev invariant-loop : tie.invariant-loop-end
 invariant-loop said from end₀ end = Ending said from end
 
-abbrev decreases-loop : tie.decreases-loop
+abbrev decreases-loop : tie.decreases-loop-end
 decreases-loop said from end₀ end = length said - end
 
-loop-holds : tie.Need-loop-init invariant-loop decreases-loop
+loop-holds : tie.Need-loop-end-init invariant-loop decreases-loop
 loop-holds c = search all
 
-shared-slice-read-if1 : tie.Need-shared-slice-read-if1 invariant-loop decreases-loop
+shared-slice-read-if1 : tie.Need-bounds-said-end invariant-loop decreases-loop
 shared-slice-read-if1 c = search all
 
-returns : tie.Need-returns invariant-loop decreases-loop
+returns : tie.Need-returns-then-said-end-le32 invariant-loop decreases-loop
 returns c = search all
 
-add-end : tie.Need-overflow-add-end invariant-loop decreases-loop
+add-end : tie.Need-overflow_add-end invariant-loop decreases-loop
 add-end c = search all
 
-loop-less : tie.Need-loop-smaller invariant-loop decreases-loop
+loop-less : tie.Need-loop-end-smaller invariant-loop decreases-loop
 loop-less c = search all
 
-loop-again : tie.Need-loop-preserved invariant-loop decreases-loop
+loop-again : tie.Need-loop-end-preserved invariant-loop decreases-loop
 loop-again c = search all
 
-returns-2 : tie.Need-returns-2 invariant-loop decreases-loop
+returns-2 : tie.Need-returns invariant-loop decreases-loop
 returns-2 c = search all
 
 pub piece_end_spec : {M : Type 1} → statement M

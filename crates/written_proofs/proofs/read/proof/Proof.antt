@@ -11,7 +11,7 @@ front-requires c κs = search all
 pieces-requires : tie.Need-pieces-requires
 pieces-requires c κs = search all
 
-same_length : tie.Need-same-length
+same_length : tie.Need-shape_of-steps
 same_length c = search all
 
 returns : tie.Need-returns

@@ -11,13 +11,13 @@ begins-requires c κs = search all
 only-requires : tie.Need-only-requires
 only-requires c κs = search all
 
-returns : tie.Need-returns
+returns : tie.Need-returns-then-begins
 returns c = search all
 
 number-requires : tie.Need-number-requires
 number-requires c κs = search all
 
-returns-2 : tie.Need-returns-2
+returns-2 : tie.Need-returns
 returns-2 c = search all
 
 pub told_spec : {M : Type 1} → statement M

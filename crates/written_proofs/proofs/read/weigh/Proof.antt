@@ -5,13 +5,13 @@ use Rattle.written_proofs.proofs.Pieces.{turn_laws}
 
 ruleset all = (rules, turn_laws)
 
-enum_told : tie.Need-enum-told
+enum_told : tie.Need-enum_told-1
 enum_told c = search all
 
 verb-requires : tie.Need-verb-requires
 verb-requires c κs = search all
 
-enum-told-2 : tie.Need-enum-told-2
+enum-told-2 : tie.Need-enum_told-in-Height
 enum-told-2 c = search all
 
 number-requires : tie.Need-number-requires
@@ -20,7 +20,7 @@ number-requires c κs = search all
 made-requires : tie.Need-made-requires
 made-requires c κs = search all
 
-enum-told-3 : tie.Need-enum-told-3
+enum-told-3 : tie.Need-enum_told-in-Clause
 enum-told-3 c = search all
 
 told-requires : tie.Need-told-requires
@@ -29,25 +29,25 @@ told-requires c κs = search all
 named-requires : tie.Need-named-requires
 named-requires c κs = search all
 
-enum-known-awaited : tie.Need-enum-known-awaited
+enum-known-awaited : tie.Need-enum_known-awaited
 enum-known-awaited c = search all
 
-number-requires-2 : tie.Need-number-requires-2
+number-requires-2 : tie.Need-number-requires-in-Literal
 number-requires-2 c κs = search all
 
-made-requires-2 : tie.Need-made-requires-2
+made-requires-2 : tie.Need-made-requires-in-Literal
 made-requires-2 c κs = search all
 
-returns : tie.Need-returns
+returns : tie.Need-returns-in-Step
 returns c = search all
 
-returns-2 : tie.Need-returns-2
+returns-2 : tie.Need-returns-in-Height
 returns-2 c = search all
 
-returns-3 : tie.Need-returns-3
+returns-3 : tie.Need-returns-in-Clause
 returns-3 c = search all
 
-returns-4 : tie.Need-returns-4
+returns-4 : tie.Need-returns-in-Literal
 returns-4 c = search all
 
 pub weigh_spec : {M : Type 1} → statement M

@@ -9,37 +9,37 @@ use Rattle.written_proofs.proofs.Written.{steps_laws}
 
 ruleset all = (rules, steps_laws)
 
-abbrev invariant-loop : tie.invariant-loop
+abbrev invariant-loop : tie.invariant-loop-i
 invariant-loop text places steps out₀ from at₀ i₀ out at i = Left out₀ from (steps_text (names_of text places) steps) out at (steps_text (names_of text places) (drop i steps))
 
-abbrev decreases-loop : tie.decreases-loop
+abbrev decreases-loop : tie.decreases-loop-i
 decreases-loop text places steps out₀ from at₀ i₀ out at i = length steps - i
 
-loop-holds : tie.Need-loop-init invariant-loop decreases-loop
+loop-holds : tie.Need-loop-i-init invariant-loop decreases-loop
 loop-holds c = search all
 
-mul-step : tie.Need-overflow-mul-step invariant-loop decreases-loop
+mul-step : tie.Need-offset_bounds-steps-i invariant-loop decreases-loop
 mul-step c = search all
 
-shared-slice-read-step : tie.Need-shared-slice-read-step invariant-loop decreases-loop
+shared-slice-read-step : tie.Need-bounds-steps-i invariant-loop decreases-loop
 shared-slice-read-step c = search all
 
-step-requires : tie.Need-step-requires invariant-loop decreases-loop
+step-requires : tie.Need-step-written-requires invariant-loop decreases-loop
 step-requires c κs = search all
 
-byte-requires : tie.Need-byte-requires invariant-loop decreases-loop
+byte-requires : tie.Need-byte-at-requires invariant-loop decreases-loop
 byte-requires c κs = search all
 
-add-i : tie.Need-overflow-add-i invariant-loop decreases-loop
+add-i : tie.Need-overflow_add-i invariant-loop decreases-loop
 add-i c = search all
 
-loop-less : tie.Need-loop-smaller invariant-loop decreases-loop
+loop-less : tie.Need-loop-i-smaller invariant-loop decreases-loop
 loop-less c = search all
 
-loop-again : tie.Need-loop-preserved invariant-loop decreases-loop
+loop-again : tie.Need-loop-i-preserved invariant-loop decreases-loop
 loop-again c = search all
 
-same_length : tie.Need-same-length invariant-loop decreases-loop
+same_length : tie.Need-shape_of-out invariant-loop decreases-loop
 same_length c = search all
 
 returns : tie.Need-returns invariant-loop decreases-loop

@@ -11,7 +11,7 @@ front-requires c κs = search all
 lines-requires : tie.Need-lines-requires
 lines-requires c κs = search all
 
-same_length : tie.Need-same-length
+same_length : tie.Need-shape_of-out
 same_length c = search all
 
 returns : tie.Need-returns

@@ -8,7 +8,7 @@ ruleset all = (rules, reference_laws)
 wide-requires : tie.Need-wide-requires
 wide-requires c κs = search all
 
-name-requires : tie.Need-name-requires
+name-requires : tie.Need-name-name-requires
 name-requires c κs = search all
 
 tells-requires : tie.Need-tells-requires
@@ -17,19 +17,19 @@ tells-requires c κs = search all
 bytes-requires : tie.Need-bytes-requires
 bytes-requires c κs = search all
 
-same_length : tie.Need-same-length
+same_length : tie.Need-shape_of-out-then-tells
 same_length c = search all
 
-returns : tie.Need-returns
+returns : tie.Need-returns-then-tells
 returns c = search all
 
 decimal-requires : tie.Need-decimal-requires
 decimal-requires c κs = search all
 
-same-length-2 : tie.Need-same-length-2
+same-length-2 : tie.Need-shape_of-out
 same-length-2 c = search all
 
-returns-2 : tie.Need-returns-2
+returns-2 : tie.Need-returns
 returns-2 c = search all
 
 pub reference_spec : {M : Type 1} → statement M

@@ -11,7 +11,6 @@ step_spec =
     (tie.spec
     (λ c κs. search all)
     (λ c. search all)
-    (λ c. search all)
     (λ c κs. search all)
     (λ c. search all)
     (λ c κs. search all)
