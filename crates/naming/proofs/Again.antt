@@ -1,16 +1,16 @@
 -- The names of a literal numbered again.
 use mathlib.Core.List.{List, [], ◌∷◌, ◌++◌}
-use mathlib.Core.Path.{◌≡◌, refl, sym, ap, ap₂, ◌∙◌}
-use Prim.Native.Nat.{ℕ, zero, suc, ◌≤◌, ◌<◌}
+use mathlib.Core.Path.{◌≡◌, refl, ap, ap₂, ◌∙◌}
+use Prim.Native.Nat.{ℕ, zero, suc, ◌<◌}
 use native.Mathlib.Omega.{arith}
 use native.Mathlib.Decide.{dec_lt}
 use lib.ListN.{length, get_or, length-append}
-use Rattle.names.specs.Numbers.{Name, noted, known_after, first_uses, number_in}
+use Rattle.names.specs.Numbers.{Name, noted, known_after, number_in}
 use Rattle.names.proofs.Notes.{number_within, noted_known, noted_new, number_stays, number_new}
 use Rattle.tptp.specs.Said.{term_said, terms_said, literal_said}
-use Rattle.table.specs.Syntax.{Term, var, app, Terms, nil, ◌then◌, Literal}
+use Rattle.table.specs.Syntax.{Term, var, app, Terms, nil, ◌then◌}
 use Rattle.naming.specs.Shown.{Names}
-use Rattle.naming.specs.Texts.{term_naming, terms_naming, literal_naming, TermKnown, TermsKnown, SaidAgain, OwnNumbers}
+use Rattle.naming.specs.Texts.{term_naming, terms_naming, TermKnown, TermsKnown, SaidAgain, OwnNumbers}
 
 mutual
   unfolding term_said terms_said term_naming terms_naming TermKnown TermsKnown

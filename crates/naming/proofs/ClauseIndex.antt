@@ -1,8 +1,8 @@
 -- The names of clauses in an index, with premises as the code has them.
 use mathlib.Core.Bool.{Bool, true, false, cond}
-use mathlib.Core.List.{List, [], ◌∷◌, ◌++◌, map, map-append}
+use mathlib.Core.List.{List, [], ◌∷◌, ◌++◌, map-append}
 use mathlib.Core.Path.{◌≡◌, refl, sym, ap, ap₂, subst, ◌∙◌}
-use Prim.Native.Nat.{ℕ, zero, suc, ◌+◌, ◌-◌, ◌≤◌, ◌<◌, ◌^◌}
+use Prim.Native.Nat.{ℕ, zero, suc, ◌+◌, ◌≤◌, ◌<◌}
 use native.Mathlib.Omega.{arith}
 use native.Mathlib.Decide.{dec_lt}
 use borrow.Author.Tests.{leb-true, le-leb}
@@ -15,17 +15,14 @@ use Rattle.clausetext.proofs.OneReading.{one_reading}
 use Rattle.names.specs.Numbers.{Name}
 use Rattle.names.specs.Noting.{name_at, names_at}
 use Rattle.names.proofs.Same.{no_name}
-use Rattle.tptp.specs.Said.{table_said}
-use Rattle.tptp.specs.Reads.{Fits}
 use Rattle.tptp.proofs.Splits.{split}
 use Rattle.tptp.proofs.Answers.{all-count}
-use Rattle.table.specs.Syntax.{all_clauses}
 use Rattle.text.specs.Put.{Put}
 use Rattle.text.proofs.Putting.{then, same_size}
 use Rattle.text.proofs.Fitting.{left_whole, fits_exactly}
 use Rattle.naming.specs.Index.{name_of, function_places, predicate_places, clause_places}
 use Rattle.naming.specs.Clauses.{same, asks, names_of, file_names, NamesPut}
-use Rattle.naming.specs.Noting.{Tells, Admissible, Listed, ClausesNamed, Indexed}
+use Rattle.naming.specs.Noting.{Admissible, Listed, ClausesNamed, Indexed}
 use Rattle.naming.proofs.Lookups.{named_at, none_named}
 
 -- names with no names after them

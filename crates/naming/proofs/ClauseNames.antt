@@ -1,8 +1,8 @@
 -- The names of clauses found token by token, with premises as the code has them.
-use mathlib.Core.Bool.{Bool, true, false, not, cond}
-use mathlib.Core.List.{List, [], ◌∷◌, ◌++◌, append-nil, append_assoc, map, map-append}
+use mathlib.Core.Bool.{Bool, true, false, cond}
+use mathlib.Core.List.{List, [], ◌∷◌, ◌++◌, append-nil, append_assoc, map-append}
 use mathlib.Core.Path.{◌≡◌, refl, sym, ap, ◌∙◌}
-use Prim.Native.Nat.{ℕ, zero, suc, ◌+◌, ◌-◌, ◌≤◌, ◌<◌}
+use Prim.Native.Nat.{ℕ, ◌+◌, ◌-◌, ◌≤◌, ◌<◌}
 use native.Mathlib.Numerals.{add-one}
 use native.Mathlib.Omega.{arith}
 use mir.Syntax.{w32}
@@ -16,15 +16,15 @@ use Rattle.clausetext.specs.declared.token.Lexeme.{Lexeme}
 use Rattle.clausetext.specs.declared.token.Lexeme.TheVariants.{Word, Capital, Sign, Over}
 use Rattle.clausetext.specs.Kinds.{kind_of, sign_kind, letter_kind}
 use Rattle.clausetext.specs.Syntax.{Term, Terms, Literal, Role, Axiom, Hypothesis, NegatedConjecture, role_name, Clause}
-use Rattle.clausetext.specs.Tokens.{Token, word, capital, mark, Spelt}
-use Rattle.clausetext.specs.Grammar.{Applied, bare, applied, TermRule, upper, lower, Arguments, LiteralRule, positive, negated, Disjunction, Formula, plain, bracketed, ClauseRule, clause, Clauses, none}
+use Rattle.clausetext.specs.Tokens.{Token, word, Spelt}
+use Rattle.clausetext.specs.Grammar.{Applied, bare, applied, TermRule, upper, lower, Arguments, LiteralRule, positive, negated, Disjunction, Formula, plain, bracketed, clause, Clauses, none}
 use Rattle.clausetext.specs.Texts.{Says, Permitted}
 use Rattle.clausetext.specs.Lexemes.{lexeme_at}
 use Rattle.clausetext.proofs.Walking.{Met, met}
 use Rattle.names.specs.Numbers.{Name}
-use Rattle.names.specs.Noting.{name_byte, name_from, name_at, names_at}
+use Rattle.names.specs.Noting.{name_byte, name_at, names_at}
 use Rattle.names.proofs.Same.{no_name, name_on, name_over}
-use Rattle.tptp.proofs.Walk.{Head, SignHead, name_found, word_head, capital_head, sign_head, nothing_left}
+use Rattle.tptp.proofs.Walk.{Head, name_found, word_head, capital_head, sign_head, nothing_left}
 use Rattle.text.specs.Put.{Put}
 use Rattle.text.proofs.Putting.{begin, finish, then, same_size}
 use Rattle.naming.specs.Clauses.{same, asks, names_of, NamesPut, next_stage, sign_stage, kept, is_question, emits, found, Emitted}

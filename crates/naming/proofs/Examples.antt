@@ -1,7 +1,6 @@
 -- Words shown in names, by computation.
-use mathlib.Core.List.{List, [], ◌∷◌}
+use mathlib.Core.List.{[], ◌∷◌}
 use mathlib.Core.Path.{◌≡◌, refl}
-use Prim.Native.Nat.{ℕ}
 use Rattle.text.specs.Quoted.{bytes}
 use Rattle.text.specs.Digits.{digits_of, significant}
 use Rattle.naming.specs.Shown.{Names, joint_text, sign_text, closing, closed, opening, opened, shown_by, shown, until_literal, literal_parts, literal_part}

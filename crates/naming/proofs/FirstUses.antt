@@ -1,13 +1,12 @@
 -- The first uses of names noted, with premises as the code has them.
-use mathlib.Core.Bool.{Bool, true, false, cond}
-use mathlib.Core.List.{List, [], ◌∷◌, ◌++◌, append_assoc, append-nil, map, map-append}
+use mathlib.Core.List.{List, [], ◌∷◌, ◌++◌, append_assoc, append-nil, map-append}
 use mathlib.Core.Path.{◌≡◌, refl, sym, ap, ◌∙◌}
-use Prim.Native.Nat.{ℕ, zero, suc, ◌+◌, ◌-◌, ◌≤◌, ◌<◌}
+use Prim.Native.Nat.{ℕ, zero, suc, ◌+◌, ◌≤◌, ◌<◌}
 use native.Mathlib.Numerals.{add-one}
 use native.Mathlib.Omega.{arith}
 use native.Mathlib.Decide.{dec_lt}
 use lib.ListN.{length, take, drop, get_or, set, length-set, length-append, length-map, drop_of_length-le}
-use lib.Seq.{length-take-le, drop-cons, take-suc-set, get_or-take, get_or-set_other, take_all}
+use lib.Seq.{length-take-le, drop-cons, take-suc-set, get_or-take, get_or-set_other}
 use Rattle.words.specs.Fields.{kind_of, symbol_of}
 use Rattle.names.specs.Numbers.{Name, noted, known_after, first_uses, number_in}
 use Rattle.names.specs.Noting.{name_at, names_at, uses_of}

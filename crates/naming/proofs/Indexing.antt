@@ -1,34 +1,33 @@
 -- An index made of a text's items, with premises as the code has them.
 use mathlib.Core.Bool.{Bool, true, false, cond}
-use mathlib.Core.List.{List, [], ◌∷◌, ◌++◌, map, append-nil, append_assoc}
+use mathlib.Core.List.{List, [], ◌∷◌, ◌++◌, map}
 use mathlib.Core.Path.{◌≡◌, refl, sym, ap, ap₂, subst, ◌∙◌}
-use Prim.Native.Nat.{ℕ, zero, suc, ◌+◌, ◌-◌, ◌*◌, ◌/◌, ◌%◌, ◌^◌, ◌≤◌, ◌<◌}
+use Prim.Native.Nat.{ℕ, zero, suc, ◌+◌, ◌-◌, ◌≤◌, ◌<◌}
 use native.Mathlib.Numerals.{add-one}
 use native.Mathlib.Omega.{arith}
-use borrow.Author.Tests.{eq-eqb, ne_eqb, eqb-false, eqb-true}
+use borrow.Author.Tests.{eqb-true}
 use lib.Dec.{eqb}
-use lib.ListN.{length, take, drop, get_or, set, replicate, length-append, length-drop, length-replicate, get_or-replicate, length-set}
-use lib.Seq.{length-take-le, get_or-take, get_or-drop, take-append_seam, drop-append_seam, take-append-le, drop-append-le, drop-drop, drop-cons, take-suc-set, take_all}
-use Rattle.words.specs.Fields.{kind_of, symbol_of, function_word, literal_word, sign_bit}
+use lib.ListN.{length, take, drop, set, replicate, length-append, length-drop, length-replicate, get_or-replicate, length-set}
+use lib.Seq.{length-take-le, get_or-take, get_or-drop, take-append_seam, drop-append_seam, take-suc-set, take_all}
+use Rattle.words.specs.Fields.{kind_of, symbol_of, function_word, literal_word}
 use Rattle.words.proofs.Packed.{function_kind, literal_kind}
 use Rattle.clausetext.specs.Syntax.{Clause}
 use Rattle.clausetext.specs.declared.judge.Verdict.{Verdict}
 use Rattle.clausetext.specs.declared.judge.Verdict.TheVariants.{Wrong, Fine}
 use Rattle.clausetext.specs.Judging.{judged}
-use Rattle.clausetext.specs.Texts.{Says, Permitted, Verdicts, long, wrong, fine}
+use Rattle.clausetext.specs.Texts.{Permitted, Verdicts, long, wrong, fine}
 use Rattle.clausetext.proofs.Judgement.{judged_verdict, only_verdict}
 use Rattle.clausetext.proofs.OneReading.{one_reading}
 use Rattle.table.specs.Limits.{Each}
 use Rattle.names.specs.Numbers.{Name, first_uses, number_in}
-use Rattle.names.specs.Noting.{name_at, names_at, uses_of}
+use Rattle.names.specs.Noting.{names_at, uses_of}
 use Rattle.names.proofs.Same.{no_name}
 use Rattle.tptp.specs.Sketch.{Item, clauses_items}
 use Rattle.tptp.specs.Shapes.{sort_kind, shape_by, fits_by}
-use Rattle.tptp.specs.Said.{function_uses, predicate_uses, of_all, predicates, functions, table_said}
-use Rattle.tptp.specs.Reads.{Fits}
-use Rattle.tptp.specs.Inside.{Asked, Gatherable}
+use Rattle.tptp.specs.Said.{function_uses, predicate_uses, of_all, predicates, functions}
+use Rattle.tptp.specs.Inside.{Gatherable}
 use Rattle.tptp.specs.Memory.{Gathered}
-use Rattle.tptp.specs.Body.{item_names, Fit, bare, with_function, with_predicate, Under, Below, Held, Numbered, ClauseFits, Completed}
+use Rattle.tptp.specs.Body.{item_names, Fit, with_predicate, Below, Held, Numbered, ClauseFits, Completed}
 use Rattle.tptp.proofs.Shaping.{few_parts}
 use Rattle.tptp.proofs.Items.{names_of_kind, Kinds, uses_are, clauses_functions, clauses_predicates}
 use Rattle.tptp.proofs.Stages.{kinds_predicates}
@@ -36,7 +35,7 @@ use Rattle.tptp.proofs.Final.{uses_few}
 use Rattle.tptp.proofs.Splits.{split}
 use Rattle.tptp.proofs.Answers.{within-said}
 use Rattle.tptp.proofs.Calling.{file_size}
-use Rattle.naming.specs.Index.{name_of, function_places, predicate_places}
+use Rattle.naming.specs.Index.{function_places, predicate_places}
 use Rattle.naming.specs.Firsts.{Numbered as Right, Blank, Noted}
 use Rattle.naming.specs.Noting.{Tells, Admissible, Listed, Unnamed, BothNoted}
 

@@ -70,16 +70,16 @@ module _ (text : Bor (List ℕ)) (places : List ℕ) {number : ℕ} where
   }
 
 -- the parts that are handed back
-pub none_stands : (text : Bor (List ℕ)) {at : ℕ} → length text.now ≤ at → (ptr : ℕ × ℕ) (name : ℕ) → IsName text at (record { ref_ptr = ptr; ghost_name = name; now = [] })
-none_stands text {at} h ptr name = record { bytes = sym (no_name text.now at h); place = λ l. absurd (omega (arith, h, l)) }
+pub none_stands : (text : Bor (List ℕ)) {at : ℕ} → length text.now ≤ at → (ptr : ℕ × ℕ) → IsName text at (record { ref_ptr = ptr; now = [] })
+none_stands text {at} h ptr = record { bytes = sym (no_name text.now at h); place = λ l. absurd (omega (arith, h, l)) }
 
-pub name_stands : (text : Bor (List ℕ)) {at q : ℕ} → at < length text.now → q ≡ length (name_at text.now at) → (name : ℕ)
-    → IsName text at (record { ref_ptr = (text.ref_ptr.0, at + text.ref_ptr.1); ghost_name = name; now = take (at + q - at) (drop at text.now) })
-name_stands text h e name = record { bytes = name_bytes text.now h e; place = λ l. refl }
+pub name_stands : (text : Bor (List ℕ)) {at q : ℕ} → at < length text.now → q ≡ length (name_at text.now at)
+    → IsName text at (record { ref_ptr = (text.ref_ptr.0, at + text.ref_ptr.1); now = take (at + q - at) (drop at text.now) })
+name_stands text h e = record { bytes = name_bytes text.now h e; place = λ l. refl }
 
-pub none_is_named : (text : Bor (List ℕ)) (places : List ℕ) {number : ℕ} → length places ≤ number → (ptr : ℕ × ℕ) (name : ℕ)
-    → IsNamed text places number (record { ref_ptr = ptr; ghost_name = name; now = [] })
-none_is_named text places {number} h ptr name = record { bytes = sym (none_named text.now places number h); place = λ l _. absurd (omega (arith, h, l)) }
+pub none_is_named : (text : Bor (List ℕ)) (places : List ℕ) {number : ℕ} → length places ≤ number → (ptr : ℕ × ℕ)
+    → IsNamed text places number (record { ref_ptr = ptr; now = [] })
+none_is_named text places {number} h ptr = record { bytes = sym (none_named text.now places number h); place = λ l _. absurd (omega (arith, h, l)) }
 
 pub ruleset name_laws = (name_ends, name_end_fits, none_stands, name_stands, none_is_named, is_named)
 

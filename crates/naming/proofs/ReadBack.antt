@@ -1,20 +1,19 @@
 -- What is shown of a literal, read as clause text, is the literal in those names.
 use mathlib.Core.Bool.{Bool, true, false, ◌&&◌}
 use mathlib.Core.List.{List, [], ◌∷◌, ◌++◌, append_assoc, append-nil}
-use mathlib.Core.Path.{◌≡◌, refl, sym, ap, subst, ◌∙◌}
+use mathlib.Core.Path.{◌≡◌, refl, sym, subst}
 use Prim.Native.Nat.{ℕ}
 use native.Mathlib.Omega.{arith}
 use lib.ListN.{get_or}
-use Rattle.clausetext.specs.declared.kind.Kind.{Kind}
 use Rattle.clausetext.specs.declared.kind.Kind.TheVariants.{Lower, Upper}
 use Rattle.clausetext.specs.declared.kind.Mark.TheVariants.{Open, Close, Comma, Tilde}
 use Rattle.clausetext.specs.Kinds.{kind_of, goes_on, sign_kind, letter_kind}
 use Rattle.clausetext.specs.Tokens.{Token, word, capital, mark, word_ahead, Word, ends, goes, Spelt, nothing, blank, sign, lower, upper}
 use Rattle.clausetext.specs.Grammar.{Applied, bare, applied, TermRule, Arguments, LiteralRule, positive, negated}
 use Rattle.clausetext.specs.Grammar as Grammar
-use Rattle.table.specs.Syntax.{Term, var, app, Terms, nil, ◌then◌, Literal}
-use Rattle.naming.specs.Shown.{Names, or_numbered, sign_text}
-use Rattle.naming.specs.Texts.{term_text, arguments_text, further_text, literal_text, going_on, Begins, begins, variable_name, TermNamed, TermsNamed, term_naming, terms_naming, literal_naming, ReadAs, ReadsAsShown}
+use Rattle.table.specs.Syntax.{Term, var, app, Terms, nil, ◌then◌}
+use Rattle.naming.specs.Shown.{Names, sign_text}
+use Rattle.naming.specs.Texts.{term_text, arguments_text, further_text, literal_text, going_on, Begins, begins, variable_name, TermNamed, TermsNamed, term_naming, terms_naming, ReadAs, ReadsAsShown}
 
 -- a word ends where no letter, digit or `_` comes
 whole_word : (w : List ℕ) → going_on w ≡ true → (rest : List ℕ) → word_ahead rest ≡ false → Word w (w ++ rest) rest

@@ -1,26 +1,25 @@
 -- Words shown in names, with premises as the code has them.
 use mathlib.Core.Bool.{Bool, true, false, cond}
-use mathlib.Core.List.{List, [], ◌∷◌, ◌++◌, append_assoc, append-nil}
+use mathlib.Core.List.{List, [], ◌∷◌, ◌++◌}
 use mathlib.Core.Path.{◌≡◌, refl, sym, ap, ◌∙◌}
-use Prim.Native.Nat.{ℕ, zero, suc, ◌+◌, ◌-◌, ◌%◌, ◌≤◌, ◌<◌, ◌^◌}
+use Prim.Native.Nat.{ℕ, zero, suc, ◌+◌, ◌-◌, ◌%◌, ◌≤◌, ◌<◌}
 use native.Mathlib.Numerals.{add-one}
 use native.Mathlib.Omega.{arith}
-use mir.Syntax.{w32, w64}
+use mir.Syntax.{w64}
 use mir.Val.{Fits}
-use denote.Ref.{Bor, MutBor}
+use denote.Ref.{Bor}
 use borrow.Author.Tests.{eq-eqb, ne_eqb}
 use lib.Dec.{eqb}
 use lib.ListN.{length, take, drop, get_or, set, length-set, length-drop, drop_of_length-le}
 use lib.Seq.{drop-cons}
 use Rattle.words.specs.Fields.{kind_of, number_of, symbol_of, arity_of, negative_of}
 use Rattle.names.specs.Numbers.{Name}
-use Rattle.names.specs.Noting.{names_at}
 use Rattle.tptp.specs.Memory.{inner_of}
-use Rattle.tptp.proofs.Signs.{inner_kept, inner_pushed}
+use Rattle.tptp.proofs.Signs.{inner_pushed}
 use Rattle.text.specs.Put.{Put}
 use Rattle.text.specs.Quoted.{bytes}
 use Rattle.text.specs.Digits.{decimal_text}
-use Rattle.text.proofs.Putting.{Left, begin, same_size, finish, further, then}
+use Rattle.text.proofs.Putting.{Left, begin, finish, further, then}
 use Rattle.naming.specs.Index.{name_of, IsNamed, function_places, predicate_places}
 use Rattle.naming.specs.Shown.{Names, or_numbered, variable_text, joint_text, sign_text, open_of, closing, closed, opening, opened, Written, begun, shown_by, shown, names_in, until_literal, literal_parts, literal_part}
 use Rattle.naming.specs.declared.show.Reached.{Reached}
@@ -137,7 +136,7 @@ module _ {left : List ℕ} {depth : ℕ} {first : List ℕ} {from : ℕ} {arity 
 pub ruleset open_laws = (open_none, open_some)
 
 -- a variable by its name or by its number
-module _ (text : MutBor (List ℕ)) (places : List ℕ) (number : ℕ) {q : ℕ} (e : q ≡ number) {r : MutBor (List ℕ)} (i : IsNamed text places q r) where
+module _ (text : Bor (List ℕ)) (places : List ℕ) (number : ℕ) {q : ℕ} (e : q ≡ number) {r : Bor (List ℕ)} (i : IsNamed text places q r) where
   named-so : name_of text.now places number ≡ r.now
   named-so = rw (← e) (sym i.bytes)
 
@@ -210,7 +209,7 @@ pub literal_begun : (text : Bor (List ℕ)) (index : List ℕ) (atoms before w :
 literal_begun text index atoms before w p e g ey eq i t =
     then (then p (rw e at g)) (rw (i.bytes, eq, ey) at t)
 
-pub function_named : (text : MutBor (List ℕ)) (places : List ℕ) {number q : ℕ} → q ≡ number → {r : MutBor (List ℕ)} → IsNamed text places q r
+pub function_named : (text : Bor (List ℕ)) (places : List ℕ) {number q : ℕ} → q ≡ number → {r : Bor (List ℕ)} → IsNamed text places q r
     → {out left : List ℕ} {from end : ℕ} → Put out from r.now left end → Put out from (name_of text.now places number) left end
 function_named text places e i t = rw (i.bytes, e) at t
 

@@ -1,6 +1,6 @@
 -- Where the names of a text stand: places in an index, one for each number. A place past the text's end has no name.
 use Rattle.std.specs.Prelude.{cond, List, [], ◌≡◌, ℕ, ◌+◌, ◌*◌, ◌<◌, ltb, length, take, drop, get_or}
-use Rattle.std.specs.Borrow.{Bor, MutBor}
+use Rattle.std.specs.Borrow.{Bor}
 use Rattle.names.specs.Numbers.{Name}
 use Rattle.names.specs.Noting.{name_at, names_at}
 
@@ -13,7 +13,7 @@ pub record IsName (text : Bor (List ℕ)) (at : ℕ) (r : Bor (List ℕ)) : Type
 abbrev pub name_of : List ℕ → List ℕ → ℕ → Name
 name_of text places number = get_or (names_at text places) number []
 
-pub record IsNamed (text : MutBor (List ℕ)) (places : List ℕ) (number : ℕ) (r : MutBor (List ℕ)) : Type 0 where
+pub record IsNamed (text : Bor (List ℕ)) (places : List ℕ) (number : ℕ) (r : Bor (List ℕ)) : Type 0 where
   pub bytes : r.now ≡ name_of text.now places number
   pub place : number < length places → get_or places number 0 < length text.now
       → r.ref_ptr ≡ (text.ref_ptr.0, get_or places number 0 + text.ref_ptr.1)

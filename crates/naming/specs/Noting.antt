@@ -1,5 +1,5 @@
 -- The names of a text by their numbers, in an index.
-use Rattle.std.specs.Prelude.{Bool, true, List, [], ◌≡◌, ℕ, ◌≤◌, ◌<◌, length, drop, get_or}
+use Rattle.std.specs.Prelude.{Bool, true, List, [], ◌≡◌, ℕ, ◌≤◌, ◌<◌, length, get_or}
 use Rattle.clausetext.specs.Syntax.{Clause}
 use Rattle.clausetext.specs.Texts.{Says, questions}
 use Rattle.names.specs.Noting.{name_at}

@@ -2,21 +2,19 @@ use borrow.Author.Rules.{rules}
 use Rattle.naming.proofs.ClauseNames.{stage_laws}
 use Rattle.naming.proofs.clauses.next_stage.Statement.{statement}
 use Rattle.naming.proofs.clauses.next_stage.Tie as tie
-use Rattle.naming.proofs.clauses.next_stage.Reads as reads
-use Rattle.naming.proofs.clauses.next_stage.Lts as lts
 
 ruleset all = (rules, stage_laws)
 
 -- src/clauses.rt:19:16
-add-result : tie.Need-overflow-add-result
+add-result : tie.Need-overflow_add-result
 add-result c = search rules
 
 -- src/clauses.rt:19:9
-returns : tie.Need-returns
+returns : tie.Need-returns-then-stage-lt5
 returns c = search all
 
 -- src/clauses.rt:15:1
-returns-2 : tie.Need-returns-2
+returns-2 : tie.Need-returns
 returns-2 c = search all
 
 pub next_stage_spec : {M : Type 1} → statement M

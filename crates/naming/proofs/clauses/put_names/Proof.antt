@@ -4,100 +4,93 @@ use borrow.Author.Rules.{rules}
 use Rattle.naming.proofs.ClauseNames.{Going, names_laws}
 use Rattle.naming.proofs.clauses.put_names.Statement.{statement}
 use Rattle.naming.proofs.clauses.put_names.Tie as tie
-use Rattle.naming.proofs.clauses.put_names.Reads as reads
-use Rattle.naming.proofs.clauses.put_names.Lts as lts
-use Rattle.clausetext.proofs.token.next.Reads as next-reads
-use Rattle.naming.proofs.clauses.kept_name.Reads as kept-name-reads
-use Rattle.naming.proofs.clauses.next_stage.Reads as next-stage-reads
-use Rattle.naming.proofs.clauses.put_name.Reads as put-name-reads
-use Rattle.naming.proofs.clauses.sign_stage.Reads as sign-stage-reads
 
 ruleset all = (rules, names_laws)
 
-abbrev invariant-loop : tie.invariant-loop
+abbrev invariant-loop : tie.invariant-loop-start
 invariant-loop text asked out₀ from stage₀ name₀ end₀ at₀ out stage name end at = Going text asked out₀ from out stage name end at
 
-abbrev decreases-loop : tie.decreases-loop
+abbrev decreases-loop : tie.decreases-loop-start
 decreases-loop text asked out₀ from stage₀ name₀ end₀ at₀ out stage name end at = length text - at
 
 -- src/clauses.rt:86:5
-loop-holds : tie.Need-loop-init invariant-loop decreases-loop
+loop-holds : tie.Need-loop-start-init invariant-loop decreases-loop
 loop-holds c = search all
 
 -- src/clauses.rt:87:13
-next-requires : tie.Need-next-requires invariant-loop decreases-loop
+next-requires : tie.Need-next-lexeme-requires invariant-loop decreases-loop
 next-requires c κs = search all
 
 -- src/clauses.rt:89:26
-enum-known-lexeme : tie.Need-enum-known-lexeme invariant-loop decreases-loop
+enum-known-lexeme : tie.Need-enum_known-lexeme invariant-loop decreases-loop
 enum-known-lexeme c = search all
 
 -- src/clauses.rt:90:17
-put-name-requires : tie.Need-put-name-requires invariant-loop decreases-loop
+put-name-requires : tie.Need-put_name-end-requires invariant-loop decreases-loop
 put-name-requires c κs = search all
 
 -- src/clauses.rt:91:47
-cast-kept-name : tie.Need-overflow-cast-kept-name invariant-loop decreases-loop
+cast-kept-name : tie.Need-overflow_cast-start invariant-loop decreases-loop
 cast-kept-name c = search all
 
 -- src/clauses.rt:91:17
-kept-name-requires : tie.Need-kept-name-requires invariant-loop decreases-loop
+kept-name-requires : tie.Need-kept_name-name-requires invariant-loop decreases-loop
 kept-name-requires c κs = search all
 
 -- src/clauses.rt:92:17
-next-stage-requires : tie.Need-next-stage-requires invariant-loop decreases-loop
+next-stage-requires : tie.Need-next_stage-stage-requires invariant-loop decreases-loop
 next-stage-requires c κs = search all
 
 -- src/clauses.rt:86:5
-loop-less : tie.Need-loop-smaller invariant-loop decreases-loop
+loop-less : tie.Need-loop-start-smaller-in-Word invariant-loop decreases-loop
 loop-less c = search all
 
 -- src/clauses.rt:86:5
-loop-again : tie.Need-loop-preserved invariant-loop decreases-loop
+loop-again : tie.Need-loop-start-preserved-in-Word invariant-loop decreases-loop
 loop-again c = search all
 
 -- src/clauses.rt:96:32
-enum-known-lexeme-2 : tie.Need-enum-known-lexeme-2 invariant-loop decreases-loop
+enum-known-lexeme-2 : tie.Need-enum_known-lexeme-in-Capital-1 invariant-loop decreases-loop
 enum-known-lexeme-2 c = search all
 
 -- src/clauses.rt:97:17
-next-stage-requires-2 : tie.Need-next-stage-requires-2 invariant-loop decreases-loop
+next-stage-requires-2 : tie.Need-next_stage-stage-requires-in-Capital invariant-loop decreases-loop
 next-stage-requires-2 c κs = search all
 
 -- src/clauses.rt:86:5
-loop-less-2 : tie.Need-loop-smaller-2 invariant-loop decreases-loop
+loop-less-2 : tie.Need-loop-start-smaller-in-Capital invariant-loop decreases-loop
 loop-less-2 c = search all
 
 -- src/clauses.rt:86:5
-loop-again-2 : tie.Need-loop-preserved-2 invariant-loop decreases-loop
+loop-again-2 : tie.Need-loop-start-preserved-in-Capital invariant-loop decreases-loop
 loop-again-2 c = search all
 
 -- src/clauses.rt:101:26
-enum-known-lexeme-3 : tie.Need-enum-known-lexeme-3 invariant-loop decreases-loop
+enum-known-lexeme-3 : tie.Need-enum_known-lexeme-in-Sign-1 invariant-loop decreases-loop
 enum-known-lexeme-3 c = search all
 
 -- src/clauses.rt:102:17
-sign-stage-requires : tie.Need-sign-stage-requires invariant-loop decreases-loop
+sign-stage-requires : tie.Need-sign_stage-stage-requires invariant-loop decreases-loop
 sign-stage-requires c κs = search all
 
 -- src/clauses.rt:86:5
-loop-less-3 : tie.Need-loop-smaller-3 invariant-loop decreases-loop
+loop-less-3 : tie.Need-loop-start-smaller invariant-loop decreases-loop
 loop-less-3 c = search all
 
 -- src/clauses.rt:86:5
-loop-again-3 : tie.Need-loop-preserved-3 invariant-loop decreases-loop
+loop-again-3 : tie.Need-loop-start-preserved invariant-loop decreases-loop
 loop-again-3 c = search all
 
 -- src/clauses.rt:106:29
-enum_told : tie.Need-enum-told invariant-loop decreases-loop
+enum_told : tie.Need-enum_told-1 invariant-loop decreases-loop
 enum_told c = search all
 
 -- src/clauses.rt:106:29
-same_length : tie.Need-same-length invariant-loop decreases-loop
+same_length : tie.Need-shape_of-out-in-Over invariant-loop decreases-loop
 same_length c = search all
 
 -- src/clauses.rt:106:29
-returns : tie.Need-returns invariant-loop decreases-loop
+returns : tie.Need-returns-in-Over invariant-loop decreases-loop
 returns c = search all
 
 pub put_names_spec : {M : Type 1} → statement M

@@ -2,20 +2,17 @@ use Rattle.naming.proofs.Indexing.{both_noted}
 use borrow.Author.Rules.{rules}
 use Rattle.naming.proofs.index.note_both.Statement.{statement}
 use Rattle.naming.proofs.index.note_both.Tie as tie
-use Rattle.naming.proofs.index.note_both.Reads as reads
-use Rattle.naming.proofs.index.note_both.Lts as lts
-use Rattle.naming.proofs.first.note.Reads as note-reads
 
 -- src/index.rt:31:28
-sub-note : tie.Need-overflow-sub-note
+sub-note : tie.Need-slice_bounds-note-count
 sub-note c = search rules
 
 -- src/index.rt:31:28
-part-note-start : tie.Need-slice-bounds-note-start
+part-note-start : tie.Need-slice_bounds-note-start
 part-note-start c = search rules
 
 -- src/index.rt:31:28
-part-note-end : tie.Need-slice-bounds-note-end
+part-note-end : tie.Need-slice_bounds-note-end
 part-note-end c = search rules
 
 -- src/index.rt:31:5
@@ -23,15 +20,15 @@ note-requires : tie.Need-note-requires
 note-requires c κs = search rules
 
 -- src/index.rt:32:28
-sub-note-2 : tie.Need-overflow-sub-note-2
+sub-note-2 : tie.Need-slice_bounds-note-count-2
 sub-note-2 c = search rules
 
 -- src/index.rt:32:28
-part-note-start-2 : tie.Need-slice-bounds-note-start-2
+part-note-start-2 : tie.Need-slice_bounds-note-start-2
 part-note-start-2 c = search rules
 
 -- src/index.rt:32:28
-part-note-end-2 : tie.Need-slice-bounds-note-end-2
+part-note-end-2 : tie.Need-slice_bounds-note-end-2
 part-note-end-2 c = search rules
 
 -- src/index.rt:32:5
@@ -39,12 +36,12 @@ note-requires-2 : tie.Need-note-requires-2
 note-requires-2 c κs = search rules
 
 -- src/index.rt:27:1
-same_length : tie.Need-same-length
+same_length : tie.Need-shape_of-index
 same_length c = search rules
 
 -- src/index.rt:27:1
 returns : tie.Need-returns
-returns c = both_noted c.before.before.before.before.before.before.before.before.before.before.before.requires.1 c.before.before.before.before.before.before.note.ensures c.before.before.note2.ensures
+returns c = both_noted c.requires.1 c.note.ensures c.note-2.ensures
 
 pub note_both_spec : {M : Type 1} → statement M
 note_both_spec =

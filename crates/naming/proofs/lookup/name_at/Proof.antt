@@ -2,26 +2,23 @@ use borrow.Author.Rules.{rules}
 use Rattle.naming.proofs.Lookups.{name_laws, name_end_fits}
 use Rattle.naming.proofs.lookup.name_at.Statement.{statement}
 use Rattle.naming.proofs.lookup.name_at.Tie as tie
-use Rattle.naming.proofs.lookup.name_at.Reads as reads
-use Rattle.naming.proofs.lookup.name_at.Lts as lts
-use Rattle.names.proofs.name.bytes.Reads as bytes-reads
 
 ruleset all = (rules, name_laws)
 
 -- src/lookup.rt:17:16
-sub-result : tie.Need-overflow-sub-result
+sub-result : tie.Need-slice_bounds-result-count
 sub-result c = search rules
 
 -- src/lookup.rt:17:16
-part-result-start : tie.Need-slice-bounds-result-start
+part-result-start : tie.Need-slice_bounds-result-start
 part-result-start c = search rules
 
 -- src/lookup.rt:17:16
-part-result-end : tie.Need-slice-bounds-result-end
+part-result-end : tie.Need-slice_bounds-result-end
 part-result-end c = search rules
 
 -- src/lookup.rt:17:9
-returns : tie.Need-returns
+returns : tie.Need-returns-then-text-at
 returns c = search all
 
 -- src/lookup.rt:19:20
@@ -29,23 +26,23 @@ bytes-requires : tie.Need-bytes-requires
 bytes-requires c κs = search rules
 
 -- src/lookup.rt:19:15
-add-end : tie.Need-overflow-add-end
-add-end c = name_end_fits c.before.before.before.args.text.now (search rules) c.bytes.ensures (search rules)
+add-end : tie.Need-overflow_add-end
+add-end c = name_end_fits c.args.text.now (search rules) c.bytes.ensures (search rules)
 
 -- src/lookup.rt:20:5
-sub-result-2 : tie.Need-overflow-sub-result-2
+sub-result-2 : tie.Need-slice_bounds-result-count-2
 sub-result-2 c = search rules
 
 -- src/lookup.rt:20:5
-part-result-start-2 : tie.Need-slice-bounds-result-start-2
+part-result-start-2 : tie.Need-slice_bounds-result-start-2
 part-result-start-2 c = search rules
 
 -- src/lookup.rt:20:5
-part-result-end-2 : tie.Need-slice-bounds-result-end-2
+part-result-end-2 : tie.Need-slice_bounds-result-end-2
 part-result-end-2 c = search all
 
 -- src/lookup.rt:13:1
-returns-2 : tie.Need-returns-2
+returns-2 : tie.Need-returns
 returns-2 c = search all
 
 pub name_at_spec : {M : Type 1} → statement M

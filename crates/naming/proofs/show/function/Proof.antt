@@ -2,11 +2,6 @@ use borrow.Author.Rules.{rules}
 use Rattle.naming.proofs.Showing.{function_named}
 use Rattle.naming.proofs.show.function.Statement.{statement}
 use Rattle.naming.proofs.show.function.Tie as tie
-use Rattle.naming.proofs.show.function.Reads as reads
-use Rattle.naming.proofs.show.function.Lts as lts
-use Rattle.naming.proofs.lookup.function.Reads as function-reads
-use Rattle.text.proofs.put.bytes.Reads as bytes-reads
-use Rattle.words.proofs.fields.wide.Reads as wide-reads
 
 ruleset all = (rules, function_named)
 
@@ -15,7 +10,7 @@ wide-requires : tie.Need-wide-requires
 wide-requires c κs = search rules
 
 -- src/show.rt:110:9
-function-requires : tie.Need-function-requires
+function-requires : tie.Need-function-name-requires
 function-requires c κs = search rules
 
 -- src/show.rt:111:5
@@ -23,7 +18,7 @@ bytes-requires : tie.Need-bytes-requires
 bytes-requires c κs = search rules
 
 -- src/show.rt:106:1
-same_length : tie.Need-same-length
+same_length : tie.Need-shape_of-out
 same_length c = search rules
 
 -- src/show.rt:106:1

@@ -2,12 +2,6 @@ use borrow.Author.Rules.{rules}
 use Rattle.naming.proofs.Showing.{variable_laws}
 use Rattle.naming.proofs.show.variable.Statement.{statement}
 use Rattle.naming.proofs.show.variable.Tie as tie
-use Rattle.naming.proofs.show.variable.Reads as reads
-use Rattle.naming.proofs.show.variable.Lts as lts
-use Rattle.naming.proofs.lookup.name.Reads as name-reads
-use Rattle.text.proofs.put.bytes.Reads as bytes-reads
-use Rattle.text.proofs.put.field.Reads as field-reads
-use Rattle.words.proofs.fields.wide.Reads as wide-reads
 
 ruleset all = (rules, variable_laws)
 
@@ -16,23 +10,19 @@ wide-requires : tie.Need-wide-requires
 wide-requires c κs = search rules
 
 -- src/show.rt:63:9
-name-requires : tie.Need-name-requires
+name-requires : tie.Need-name-name-requires
 name-requires c κs = search rules
-
--- src/show.rt:65:38
-slice-aggregate-field : tie.Need-slice-aggregate-field
-slice-aggregate-field c = search rules
 
 -- src/show.rt:65:9
 field-requires : tie.Need-field-requires
 field-requires c κs = search rules
 
 -- src/show.rt:65:9
-same_length : tie.Need-same-length
+same_length : tie.Need-shape_of-out-then-name-eq0
 same_length c = search rules
 
 -- src/show.rt:65:9
-returns : tie.Need-returns
+returns : tie.Need-returns-then-name-eq0
 returns c = search all
 
 -- src/show.rt:67:5
@@ -40,11 +30,11 @@ bytes-requires : tie.Need-bytes-requires
 bytes-requires c κs = search rules
 
 -- src/show.rt:60:1
-same-length-2 : tie.Need-same-length-2
+same-length-2 : tie.Need-shape_of-out
 same-length-2 c = search rules
 
 -- src/show.rt:60:1
-returns-2 : tie.Need-returns-2
+returns-2 : tie.Need-returns
 returns-2 c = search all
 
 pub variable_spec : {M : Type 1} → statement M
@@ -53,7 +43,6 @@ variable_spec =
     (tie.spec
     wide-requires
     name-requires
-    slice-aggregate-field
     field-requires
     same_length
     returns
