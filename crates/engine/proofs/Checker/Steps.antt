@@ -295,8 +295,8 @@ module _ {f m : List ℕ} {place : Place} (ready : Ready f m place) (word height
             (λ p st. rw s (reduction-unfit (setting_for f conditions) p.tableau (leaf ready n) (right ready n) (first_leaf ready n p st) height (above-some ready n height (some-height conditions word s) (sym g ∙ e)) apart))
 
         module _ (d : v ≡ w) where
-          other_sign : word_at f m r ≡ other_sign (word_at f m (leaf_of m place))
-          other_sign = sym ev ∙ d ∙ ew
+          other_sign_lem : word_at f m r ≡ other_sign (word_at f m (leaf_of m place))
+          other_sign_lem = sym ev ∙ d ∙ ew
 
           pub reduce_allowed : Reducible f m place r
           reduce_allowed =
@@ -304,13 +304,13 @@ module _ {f m : List ℕ} {place : Place} (ready : Ready f m place) (word height
                 ready = ready;
                 some_open = omega arith;
                 stands = other-stands;
-                alike = alike_other _ _ (stands_literate f m _ (leaf_stands ready n)).shaped (small _) other_sign;
+                alike = alike_other _ _ (stands_literate f m _ (leaf_stands ready n)).shaped (small _) other_sign_lem;
               }
 
           pub reduce_judged : {m' : List ℕ} {taken : Taken} → Reduced f m m' place r word taken → {j : Judged} → j ≡ judged_by taken.meeting taken.place
               → (conditions : Conditions) → read_for conditions word ≡ step.Reduction height → Checked f m m' conditions place word j
           reduce_judged {m'} {taken} h ej conditions s =
-              let fitting = fits_other small (stands_literate f m _ (leaf_stands ready n)) (stands_literate f m r other-stands) other_sign in
+              let fitting = fits_other small (stands_literate f m _ (leaf_stands ready n)) (stands_literate f m r other-stands) other_sign_lem in
               let there = above-some ready n height (some-height conditions word s) (sym g ∙ e) in
               judged conditions word taken.meeting ej
               (λ _. record { ready = h.ready; steps = h.steps; later = h.stepping.later; copies = rw s h.copies })

@@ -175,12 +175,11 @@ module _ (body budget : ℕ) where
 
 -- whether a search by scans is settled, by how it ended
 module _ (left most budget : ℕ) where
-  pub settled_other : (e : Ending) → (tag_of (declared ending) e ≡ 0) ⊎ (tag_of (declared ending) e ≡ 1) → true ≡ settled_by e left most budget
+  pub settled_other : (e : Ending) → (e ≡ Out → ⊥) → true ≡ settled_by e left most budget
   unfolding settled_by
   settled_other Found h = refl
   settled_other Nothing h = refl
-  settled_other Out (inl h) = absurd (omega (arith, h))
-  settled_other Out (inr h) = absurd (omega (arith, h))
+  settled_other Out h = absurd (h refl)
 
   pub settled_left : {e : Ending} → e ≡ Out → (left ≡ 0 → ⊥) → false ≡ settled_by e left most budget
   unfolding settled_by

@@ -6,10 +6,10 @@ use Rattle.engine.proofs.check.ancestor.Tie as tie
 
 ruleset all = (rules, climb_laws)
 
-abbrev invariant-loop : tie.invariant-loop
+abbrev invariant-loop : tie.invariant-loop-left
 invariant-loop work head height at₀ left₀ at left = Climbing work head height at left
 
-abbrev decreases-loop : tie.decreases-loop
+abbrev decreases-loop : tie.decreases-loop-left
 decreases-loop work head height at₀ left₀ at left = left
 
 pub ancestor_spec : {M : Type 1} → statement M

@@ -7,7 +7,7 @@ pub entered_spec : {M : Type 1} → statement M
 entered_spec =
     tie.close
     (tie.spec
-    (λ c κs. let s = c.before.before.before in ((_, _, s.requires.1 c.if1.true), s.requires.2))
-    (λ c. let s = c.before.before.before.before in walk_noted s.args.file.now s.requires.0 s.args.clause s.args.literal c.entry.result (c.entry.ensures _ _ (s.requires.1 c.before.if1.true)))
-    (λ c κs. let s = c.before.before.before in (s.requires.0, s.requires.2))
-    (λ c. c.entry2.ensures))
+    (λ c κs. let s = c in ((_, _, s.requires.1 c.if-noted.true), s.requires.2))
+    (λ c. let s = c in walk_noted s.args.file.now s.requires.0 s.args.clause s.args.literal c.entry.result (c.entry.ensures _ _ (s.requires.1 c.if-noted.true)))
+    (λ c κs. let s = c in (s.requires.0, s.requires.2))
+    (λ c. c.entry-2.ensures))

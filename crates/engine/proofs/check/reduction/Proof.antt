@@ -7,37 +7,37 @@ use Rattle.engine.proofs.check.reduction.Tie as tie
 
 ruleset all = (rules, reduce_closed, reduce_missing, reduce_reads, reduce_unfit, reduce_allowed, reduce_judged)
 
-returns : tie.Need-returns
+returns : tie.Need-returns-then-head-eq0
 returns c = search all
 
-ancestor-requires : tie.Need-ancestor-requires
+ancestor-requires : tie.Need-ancestor-above-requires
 ancestor-requires c κs =
-    let ready = c.before.before.before.before.requires in
+    let ready = c.requires in
     (ready.good.size, omega arith, omega (arith, ready.head, ready.room, ready.good.copies), ready_upward ready)
 
-returns-2 : tie.Need-returns-2
+returns-2 : tie.Need-returns-in_default
 returns-2 c = search all
 
-word-at-requires : tie.Need-word-at-requires
-word-at-requires c κs = reduce_reads c.before.before.before.before.before.before.before.before.before.requires c.before.before.before.before.before.before.before.before.before.args.word c.before.before.before.before.before.before.before.before.before.args.height c.before.before.before.before.before.before.if1.false c.before.before.before.before.ancestor.ensures c.before.before.above.given.1
+word-at-requires : tie.Need-word_at-found-requires
+word-at-requires c κs = reduce_reads c.requires c.args.word c.args.height c.if-head-eq0.false c.ancestor-above.ensures c.in-At.is
 
-returns-3 : tie.Need-returns-3
+returns-3 : tie.Need-returns-then-found-wanted
 returns-3 c =
-    let start = c.before.before.before.before.before.before.before.before.before.before.before.before in
-    let small : Small start.before.args.file.now = λ i. (start.shared-slice-known.given i).fits in
+    let start = c in
+    let small : Small start.args.file.now = λ i. (start.shared_slice_known-1.given i).fits in
     search all
 
 reduce-requires : tie.Need-reduce-requires
 reduce-requires c κs =
-    let start = c.before.before.before.before.before.before.before.before.before.before.before.before.before in
-    let small : Small start.before.args.file.now = λ i. (start.shared-slice-known.given i).fits in
-    reduce_allowed start.before.requires start.before.args.word start.before.args.height c.before.before.before.before.before.before.before.before.before.before.before.if1.false c.before.before.before.before.before.before.before.before.before.ancestor.ensures c.before.before.before.before.before.before.before.above.given.1 small c.before.before.before.before.word_at.ensures c.before.before.wanted.ensures c.before.if2.false
+    let start = c in
+    let small : Small start.args.file.now = λ i. (start.shared_slice_known-1.given i).fits in
+    reduce_allowed start.requires start.args.word start.args.height c.if-head-eq0.false c.ancestor-above.ensures c.in-At.is small c.word_at-found.ensures c.wanted.ensures c.if-found-wanted.false
 
-returns-4 : tie.Need-returns-4
+returns-4 : tie.Need-returns
 returns-4 c =
-    let start = c.before.before.before.before.before.before.before.before.before.before.before.before.before.before.before.before.before in
-    let small : Small start.before.args.file.now = λ i. (start.shared-slice-known.given i).fits in
-    reduce_judged start.before.requires start.before.args.word start.before.args.height c.before.before.before.before.before.before.before.before.before.before.before.before.before.before.before.if1.false c.before.before.before.before.before.before.before.before.before.before.before.before.before.ancestor.ensures c.before.before.before.before.before.before.before.before.before.before.before.above.given.1 small c.before.before.before.before.before.before.before.before.word_at.ensures c.before.before.before.before.before.before.wanted.ensures c.before.before.before.before.before.if2.false c.before.before.before.reduce.ensures c.by-meeting.ensures
+    let start = c in
+    let small : Small start.args.file.now = λ i. (start.shared_slice_known-1.given i).fits in
+    reduce_judged start.requires start.args.word start.args.height c.if-head-eq0.false c.ancestor-above.ensures c.in-At.is small c.word_at-found.ensures c.wanted.ensures c.if-found-wanted.false c.reduce.ensures c.by_meeting.ensures
 
 pub reduction_spec : {M : Type 1} → statement M
 reduction_spec =

@@ -8,8 +8,8 @@ pub restarts_leaf_spec : {M : Type 1} → statement M
 restarts_leaf_spec =
     tie.close
     (tie.spec
-    (λ c. leaf_none c.before.before.before.requires c.before.before.before.args.conditions c.if1.true)
-    (λ c κs. let ready = c.before.before.before.requires in (ready.good.size, omega (arith, c.if1.false), omega (arith, ready.head, ready.room, ready.good.copies)))
-    (λ c κs. leaf_reads c.before.before.before.before.requires (omega (arith, c.before.if1.false)) c.literal-of.ensures)
+    (λ c. leaf_none c.requires c.args.conditions c.if-head-eq0.true)
+    (λ c κs. let ready = c.requires in (ready.good.size, omega (arith, c.if-head-eq0.false), omega (arith, ready.head, ready.room, ready.good.copies)))
+    (λ c κs. leaf_reads c.requires (omega (arith, c.if-head-eq0.false)) c.literal_of.ensures)
     (λ c κs. search rules)
-    (λ c. leaf_told c.before.before.before.before.before.before.requires c.before.before.before.before.before.before.args.conditions c.before.before.before.if1.false c.before.before.literal-of.ensures c.before.word_at.ensures c.restarts.ensures))
+    (λ c. leaf_told c.requires c.args.conditions c.if-head-eq0.false c.literal_of.ensures c.word_at-word.ensures c.restarts.ensures))

@@ -9,5 +9,5 @@ restarts_spec =
     tie.close
     (tie.spec
     (λ c κs. search rules)
-    (λ c. restarts_positive c.before.before.args.restarting (negative_of c.before.before.args.word) c.before.if1.true c.negative.ensures)
-    (λ c. restarts_none c.before.args.restarting (negative_of c.before.args.word) c.if1.false))
+    (λ c. restarts_positive c.args.restarting (negative_of c.args.word) c.if-restarting.true c.negative.ensures)
+    (λ c. restarts_none c.args.restarting (negative_of c.args.word) c.if-restarting.false))

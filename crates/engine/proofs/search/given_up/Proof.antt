@@ -7,6 +7,6 @@ pub given_up_spec : {M : Type 1} → statement M
 given_up_spec =
     tie.close
     (tie.spec
-    (λ c. goes_on_out _ _ _ c.if1.true)
+    (λ c. goes_on_out _ _ _ c.if-left-eq0.true)
     (λ c. search rules)
-    (λ c. gives_up_lem _ _ _ c.before.if1.false))
+    (λ c. gives_up_lem _ _ _ c.if-left-eq0.false))

@@ -10,4 +10,4 @@ restore_spec =
     (λ c κs. search rules)
     (λ c. search rules)
     (λ c. search rules)
-    (λ c f h. record { between = c.before.before.undo.new.0; undone = c.before.before.undo.ensures f h; exit = refl }))
+    (λ c f h. record { between = c.undo.new.work; undone = c.undo.ensures f h; exit = refl }))

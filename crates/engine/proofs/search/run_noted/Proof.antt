@@ -10,10 +10,10 @@ pub run_noted_spec : {M : Type 1} → statement M
 run_noted_spec =
     tie.close
     (tie.spec
-    (λ c. let s = c.before.before.before in omega (arith, file_least s.args.file.now s.requires.1 s.requires.2))
-    (λ c. let s = c.before.before.before in omega (arith, file_most s.args.file.now s.requires.1 s.requires.2))
-    (λ c κs. let s = c.before.before.before in (s.requires.0, omega arith, omega (arith, file_most s.args.file.now s.requires.1 s.requires.2), file_literals s.args.file.now s.requires.1 s.requires.2))
+    (λ c. let s = c in omega (arith, file_least s.args.file.now s.requires.1 s.requires.2))
+    (λ c. let s = c in omega (arith, file_most s.args.file.now s.requires.1 s.requires.2))
+    (λ c κs. let s = c in (s.requires.0, omega arith, omega (arith, file_most s.args.file.now s.requires.1 s.requires.2), file_literals s.args.file.now s.requires.1 s.requires.2))
     (λ c κs. search rules)
-    (λ c κs. let s = c.before.before.before.before.before.before.before.before.before.before.before in let n = c.before.before.before.before.before.before.before.note in let l = c.before.before.before.link in (l.auto.1.0 ∙ n.auto.1.0 ∙ s.requires.0, s.requires.1, s.requires.2, s.requires.3, λ y. l.ensures _ n.ensures))
+    (λ c κs. let s = c in let n = c.note in let l = c.link in (l.auto.work ∙ n.auto.work ∙ s.requires.0, s.requires.1, s.requires.2, s.requires.3, λ y. l.ensures _ n.ensures))
     (λ c. search rules)
-    (λ c. noted_ends (c.before.before.before.before.before.before.link.ensures _ c.before.before.before.before.before.before.before.before.before.before.note.ensures) c.before.before.run.ensures))
+    (λ c. noted_ends (c.link.ensures _ c.note.ensures) c.run.ensures))

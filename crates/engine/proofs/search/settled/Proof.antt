@@ -8,6 +8,6 @@ settled_spec =
     tie.close
     (tie.spec
     (λ c. search rules)
-    (λ c. let s = c.before in settled_other _ _ _ s.args.searched.ending c.match.keys2)
-    (λ c. settled_left _ _ _ c.before.before.enum_told.given.1 c.if1.true)
-    (λ c. settled_out _ _ _ c.before.before.enum_told.given.1 c.if1.false))
+    (λ c. let s = c in settled_other _ _ _ s.args.searched.ending c.in_default.not-Out)
+    (λ c. settled_left _ _ _ c.in-Out.is c.if-searched-ne0.true)
+    (λ c. settled_out _ _ _ c.in-Out.is c.if-searched-ne0.false))

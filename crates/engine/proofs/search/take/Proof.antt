@@ -10,49 +10,49 @@ use Rattle.engine.proofs.search.take.Tie as tie
 
 reduce-requires : tie.Need-reduce-requires
 reduce-requires c κs =
-    let s = c.before.before.before.before.before.before in
-    reduces s.requires.0 s.requires.1 (subst (Allows s.args.file.now s.args.work.now s.args.task s.args.place) c.before.before.candidate.given.1 s.requires.2)
+    let s = c in
+    reduces s.requires.0 s.requires.1 (subst (Allows s.args.file.now s.args.work.now s.args.task s.args.place) c.in-Reduce.is s.requires.2)
 
-sub-offset : tie.Need-overflow-sub-offset
+sub-offset : tie.Need-overflow_sub-offset
 sub-offset c =
-    let s = c.before.before.before.before.before.before in
-    enter_later s.requires.0 s.requires.1 (subst (Allows s.args.file.now s.args.work.now s.args.task s.args.place) c.before.before.candidate2.given.1 s.requires.2)
+    let s = c in
+    enter_later s.requires.0 s.requires.1 (subst (Allows s.args.file.now s.args.work.now s.args.task s.args.place) c.in-Enter.is s.requires.2)
 
-sub-t16 : tie.Need-overflow-sub-t16
+sub-t16 : tie.Need-overflow_sub-scan
 sub-t16 c =
-    let s = c.before.before.before.before.before.before.before in
-    enter_begun s.requires.0 s.requires.1 (subst (Allows s.args.file.now s.args.work.now s.args.task s.args.place) c.before.before.before.candidate2.given.1 s.requires.2)
+    let s = c in
+    enter_begun s.requires.0 s.requires.1 (subst (Allows s.args.file.now s.args.work.now s.args.task s.args.place) c.in-Enter.is s.requires.2)
 
 extend-requires : tie.Need-extend-requires
 extend-requires c κs =
-    let s = c.before.before.before.before.before.before.before.before.before in
-    extends s.requires.0 s.requires.1 (subst (Allows s.args.file.now s.args.work.now s.args.task s.args.place) c.before.before.before.before.before.candidate2.given.1 s.requires.2)
+    let s = c in
+    extends s.requires.0 s.requires.1 (subst (Allows s.args.file.now s.args.work.now s.args.task s.args.place) c.in-Enter.is s.requires.2)
 
-returns : tie.Need-returns
+returns : tie.Need-returns-in-Reduce
 returns c =
-    let s = c.before.before.before.before.before.before.before.before.before in
-    let e = c.before.before.before.before.before.candidate.given.1 in
-    subst (λ (k : Move). Takes s.args.file.now s.args.work.now c.before.before.reduce.new.1.0 s.args.task s.args.place k c.before.before.reduce.result) (sym e)
-    (takes_reduction s.requires.0 s.requires.1 (subst (Allows s.args.file.now s.args.work.now s.args.task s.args.place) e s.requires.2) c.before.before.reduce.ensures)
+    let s = c in
+    let e = c.in-Reduce.is in
+    subst (λ (k : Move). Takes s.args.file.now s.args.work.now c.reduce.new.work s.args.task s.args.place k c.reduce.result) (sym e)
+    (takes_reduction s.requires.0 s.requires.1 (subst (Allows s.args.file.now s.args.work.now s.args.task s.args.place) e s.requires.2) c.reduce.ensures)
 
-returns-2 : tie.Need-returns-2
+returns-2 : tie.Need-returns-in-Enter
 returns-2 c =
-    let s = c.before.before.before.before.before.before.before.before.before.before.before.before in
-    let e = c.before.before.before.before.before.before.before.before.candidate2.given.1 in
-    subst (λ (k : Move). Takes s.args.file.now s.args.work.now c.before.before.extend.new.1.0 s.args.task s.args.place k c.before.before.extend.result) (sym e)
-    (takes_extension s.requires.0 s.requires.1 (subst (Allows s.args.file.now s.args.work.now s.args.task s.args.place) e s.requires.2) c.before.before.before.before.encode.ensures c.before.before.extend.ensures)
+    let s = c in
+    let e = c.in-Enter.is in
+    subst (λ (k : Move). Takes s.args.file.now s.args.work.now c.extend.new.work s.args.task s.args.place k c.extend.result) (sym e)
+    (takes_extension s.requires.0 s.requires.1 (subst (Allows s.args.file.now s.args.work.now s.args.task s.args.place) e s.requires.2) c.encode-step.ensures c.extend.ensures)
 
 restart-requires : tie.Need-restart-requires
 restart-requires c κs =
-    let s = c.before.before.before.before.before.before in
-    restarts s.requires.0 s.requires.1 (subst (Allows s.args.file.now s.args.work.now s.args.task s.args.place) c.before.before.enum_told.given.1 s.requires.2)
+    let s = c in
+    restarts s.requires.0 s.requires.1 (subst (Allows s.args.file.now s.args.work.now s.args.task s.args.place) c.in-Renew.is s.requires.2)
 
-returns-3 : tie.Need-returns-3
+returns-3 : tie.Need-returns-in-Renew
 returns-3 c =
-    let s = c.before.before.before.before.before.before.before.before.before in
-    let e = c.before.before.before.before.before.enum_told.given.1 in
-    subst (λ (k : Move). Takes s.args.file.now s.args.work.now c.before.before.restart.new.1.0 s.args.task s.args.place k (record { meeting = Made; place = c.before.before.restart.result })) (sym e)
-    (takes_restart s.requires.0 s.requires.1 (subst (Allows s.args.file.now s.args.work.now s.args.task s.args.place) e s.requires.2) c.before.before.before.before.encode2.ensures c.before.before.restart.ensures)
+    let s = c in
+    let e = c.in-Renew.is in
+    subst (λ (k : Move). Takes s.args.file.now s.args.work.now c.restart.new.work s.args.task s.args.place k (record { meeting = Made; place = c.restart.result })) (sym e)
+    (takes_restart s.requires.0 s.requires.1 (subst (Allows s.args.file.now s.args.work.now s.args.task s.args.place) e s.requires.2) c.encode-step-in-Renew.ensures c.restart.ensures)
 
 pub take_spec : {M : Type 1} → statement M
 take_spec =

@@ -17,4 +17,4 @@ clashes_spec =
     (λ c. search all)
     (λ c κs. search all)
     (λ c. search all)
-    (λ c. let entry = c.before.before.before.before.before.before.before in clash_told entry.args.file.now entry.args.symbol c.before.before.before.before.before.kind.ensures c.before.before.before.before.if1.false c.before.before.before.wide.ensures c.before.kind2.ensures c.if2.false))
+    (λ c. let entry = c in clash_told entry.args.file.now entry.args.symbol c.kind.ensures c.if-kind-ne1.false c.wide.ensures c.kind-2.ensures c.if-kind-ne1-2.false))

@@ -7,10 +7,10 @@ use Rattle.engine.proofs.vain.first_other.Tie as tie
 
 ruleset all = (rules, not-true, not-false, seek_laws)
 
-abbrev invariant-loop : tie.invariant-loop
+abbrev invariant-loop : tie.invariant-loop-offset
 invariant-loop file start entered offset₀ offset = Seeking file start entered offset
 
-abbrev decreases-loop : tie.decreases-loop
+abbrev decreases-loop : tie.decreases-loop-offset
 decreases-loop file start entered offset₀ offset = 256 - offset
 
 pub first_other_spec : {M : Type 1} → statement M

@@ -11,10 +11,10 @@ pub heads_differ_spec : {M : Type 1} → statement M
 heads_differ_spec =
     tie.close
     (tie.spec
-    (λ c κs. (c.before.before.requires.0, c.before.before.requires.1))
+    (λ c κs. (c.requires.0, c.requires.1))
     (λ c κs. search rules)
     (λ c e. absurd (let z : ◌≡◌ {A = ℕ} 0 1 = cc in omega arith))
-    (λ c κs. (c.before.before.before.before.before.requires.0, c.before.before.before.before.before.requires.2))
+    (λ c κs. (c.requires.0, c.requires.2))
     (λ c κs. search rules)
     (λ c e. absurd (let z : ◌≡◌ {A = ℕ} 0 1 = cc in omega arith))
-    (λ c e. parted c.before.before.before.before.before.first-symbol.ensures c.before.before.before.before.kind.ensures c.before.before.before.if1.false c.before.before.first-symbol2.ensures c.before.kind2.ensures c.if2.false e))
+    (λ c e. parted c.first_symbol-symbol.ensures c.kind.ensures c.if-kind-ne1.false c.first_symbol-other.ensures c.kind-2.ensures c.if-kind-ne1-2.false e))

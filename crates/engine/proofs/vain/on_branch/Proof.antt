@@ -5,10 +5,10 @@ use Rattle.engine.proofs.vain.on_branch.Tie as tie
 
 ruleset all = (rules, walk_laws)
 
-abbrev invariant-loop : tie.invariant-loop
+abbrev invariant-loop : tie.invariant-loop-at
 invariant-loop file work head word at₀ at = Walking file work word head at
 
-abbrev decreases-loop : tie.decreases-loop
+abbrev decreases-loop : tie.decreases-loop-at
 decreases-loop file work head word at₀ at = at
 
 pub on_branch_spec : {M : Type 1} → statement M

@@ -5,10 +5,10 @@ use Rattle.engine.proofs.walk.start_of.Tie as tie
 
 ruleset all = (rules, seek_laws)
 
-abbrev invariant-loop : tie.invariant-loop
+abbrev invariant-loop : tie.invariant-loop-left
 invariant-loop body number at₀ left₀ at left = Seeking body number at left
 
-abbrev decreases-loop : tie.decreases-loop
+abbrev decreases-loop : tie.decreases-loop-left
 decreases-loop body number at₀ left₀ at left = left
 
 pub start_of_spec : {M : Type 1} → statement M
