@@ -127,8 +127,8 @@ unfolding words_from word_by variables_in
 numbered_from [] before = refl
 numbered_from (fixed w ∷ is) before = ap (w ∷◌) (numbered_from is before)
 numbered_from (free x ∷ is) before =
-    rw (firsts-also before x (variables_in is))
-    (ap₂ ◌∷◌ (place_kept x (also before x) (variables_in is) (also-seen before x)) (numbered_from is (also before x)))
+    ap (λ (vs : List Variable). map (word_by (λ y. place_of y vs)) (free x ∷ is)) (firsts-also before x (variables_in is))
+    ∙ ap₂ ◌∷◌ (place_kept x (also before x) (variables_in is) (also-seen before x)) (numbered_from is (also before x))
 
 pub answer_items : (ls : List (Literal Variable)) → literals_words (numbered ls) ≡ words_from [] (items_of_all ls)
 unfolding numbered firsts_by

@@ -62,10 +62,10 @@ room_after_word_below t =
     (falls 2 room-after-word-kinds.ps ◌<◌ μ_room_after_word t)
     room-after-word.Pre
 
-abbrev Inv : room-after-terms-lts.invariant-loop
+abbrev Inv : room-after-terms-lts.invariant-loop-owed
 Inv file work reference count room at₀ left₀ owed₀ at left owed = Counting file work reference count room at left owed
 
-abbrev μ : room-after-terms-lts.decreases-loop
+abbrev μ : room-after-terms-lts.decreases-loop-owed
 μ file work reference count room at₀ left₀ owed₀ at left owed = most_references - at
 
 abbrev told_terms : ℕ → room-after-terms-lts.Claims
@@ -85,8 +85,8 @@ told_word t = (
   room-after-terms.Post,
 )
 
-pub +room-after-terms-room-after-word-spec : {M : Type 1} → statement M
-+room-after-terms-room-after-word-spec =
+pub +room_after_terms_room_after_word_spec : {M : Type 1} → statement M
++room_after_terms_room_after_word_spec =
     close
     μ_room_after_terms
     μ_room_after_word
@@ -97,14 +97,14 @@ pub +room-after-terms-room-after-word-spec : {M : Type 1} → statement M
     Inv
     μ
     (λ c. search all)
-    (λ c κs. owed_inside c.before.before.before.before.requires.1.0 c.before.loop.invariant.ahead c.loop-test.true)
-    (λ c κs. (omega (arith, c.before.before.loop.invariant.less), (c.before.before.before.before.before.requires.1.0, owed_stands c.before.before.before.before.before.requires.1.0 c.before.before.loop.invariant.ahead c.before.loop-test.true c.word_at.ensures)))
+    (λ c κs. owed_inside c.requires.1.0 c.loop-owed.invariant.ahead c.loop-owed-test.true)
+    (λ c κs. (omega (arith, c.loop-owed.invariant.less), (c.requires.1.0, owed_stands c.requires.1.0 c.loop-owed.invariant.ahead c.loop-owed-test.true c.word_at-word.ensures)))
     (λ c. search all)
     (λ c. search all)
     (λ c. search all)
-    (λ c κs. let turn = c.before.before.before.before.before in let entry = turn.before.before.before.before in (omega arith, owed_few entry.requires.1.0 turn.before.loop.invariant.ahead turn.loop-test.true))
-    (λ c. let turn = c.before.before.before.before.before.before in let entry = turn.before.before.before.before in omega (arith, owed_small entry.requires.1.0 turn.before.loop.invariant.ahead turn.loop-test.true))
-    (λ c. let turn = c.before.before.before.before.before.before in let entry = turn.before.before.before.before in omega (arith, owed_small entry.requires.1.0 turn.before.loop.invariant.ahead turn.loop-test.true))
+    (λ c κs. let turn = c in let entry = turn in (omega arith, owed_few entry.requires.1.0 turn.loop-owed.invariant.ahead turn.loop-owed-test.true))
+    (λ c. let turn = c in let entry = turn in omega (arith, owed_small entry.requires.1.0 turn.loop-owed.invariant.ahead turn.loop-owed-test.true))
+    (λ c. let turn = c in let entry = turn in omega (arith, owed_small entry.requires.1.0 turn.loop-owed.invariant.ahead turn.loop-owed-test.true))
     (λ c. search all)
     (λ c. search all))
     λ t. room-after-word-lts.spec
@@ -115,13 +115,13 @@ pub +room-after-terms-room-after-word-spec : {M : Type 1} → statement M
     (λ c κs. search all)
     (λ c. search all)
     (λ c. search all)
-    (λ c κs. (c.before.before.before.before.before.requires.1.0, word_points c.before.before.before.before.before.requires.1.0 c.before.before.before.before.before.requires.1.1 c.before.kind.ensures c.if2.false))
-    (λ c κs. inside c.before.before.before.before.before.before.requires.1.0 c.follow.ensures.points)
+    (λ c κs. (c.requires.1.0, word_points c.requires.1.0 c.requires.1.1 c.kind.ensures c.if-kind-ne0.false))
+    (λ c κs. inside c.requires.1.0 c.follow-r.ensures.points)
     (λ c κs. search all)
     (λ c. search all)
     (λ c. search all)
-    (λ c. omega (arith, small c.before.before.before.before.before.before.before.before.before.requires.1.0 c.before.before.before.follow.ensures.points))
+    (λ c. omega (arith, small c.requires.1.0 c.follow-r.ensures.points))
     (λ c κs. search all)
     (λ c. search all)
-    (λ c κs. let entry = c.before.before.before.before.before.before.before.before.before.before in (omega arith, (entry.requires.1.0, room_ahead entry.requires.1.0 entry.requires.1.1 c.before.before.before.before.before.before.before.if1.false c.before.before.before.before.before.before.kind.ensures c.before.before.before.before.before.if2.false c.before.before.before.before.follow.ensures c.before.before.before.word_at.ensures c.before.before.kind2.ensures c.before.if3.false c.arity.ensures)))
+    (λ c κs. let entry = c in (omega arith, (entry.requires.1.0, room_ahead entry.requires.1.0 entry.requires.1.1 c.if-room-eq0.false c.kind.ensures c.if-kind-ne0.false c.follow-r.ensures c.word_at-met.ensures c.kind-2.ensures c.if-kind-eq0.false c.arity.ensures)))
     (λ c. search all)

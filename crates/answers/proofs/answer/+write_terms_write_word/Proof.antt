@@ -53,11 +53,11 @@ abbrev write_word_below : ℕ → In 3 write-word-kinds.ps
 write_word_below t =
     and 3 write-word-kinds.ps (falls 3 write-word-kinds.ps ◌<◌ μ_write_word t) write_word.Pre
 
-abbrev Inv : write-terms-lts.invariant-loop
+abbrev Inv : write-terms-lts.invariant-loop-owed
 Inv file work₀ answer₀ reference count at₀ written₀ owed₀ work answer at written owed =
     Writing file work₀ answer₀ written₀ (term_items file work₀ reference count) work answer written at owed
 
-abbrev μ : write-terms-lts.decreases-loop
+abbrev μ : write-terms-lts.decreases-loop-owed
 μ file work₀ answer₀ reference count at₀ written₀ owed₀ work answer at written owed = most_references - at
 
 abbrev told_terms : ℕ → write-terms-lts.Claims
@@ -85,8 +85,8 @@ told_word t = (
   write-terms.Post,
 )
 
-pub +write-terms-write-word-spec : {M : Type 1} → statement M
-+write-terms-write-word-spec =
+pub +write_terms_write_word_spec : {M : Type 1} → statement M
++write_terms_write_word_spec =
     close
     μ_write_terms
     μ_write_word
@@ -96,16 +96,16 @@ pub +write-terms-write-word-spec : {M : Type 1} → statement M
     write-terms.Post
     Inv
     μ
-    (λ c. writing_begin c.before.before.before.requires.1.0 c.before.before.before.requires.1.1 refl)
-    (λ c κs. owed_inside c.before.before.loop.invariant.good c.before.before.loop.invariant.ahead c.before.loop-test.true)
-    (λ c κs. let turn = c.before.before.before.before in let entry = turn.before.before.before.before.before in (omega (arith, writing_less turn.before.loop.invariant turn.loop-test.true c.before.before.word_at.ensures), (turn.before.loop.invariant.good, owed_stands turn.before.loop.invariant.good turn.before.loop.invariant.ahead turn.loop-test.true c.before.before.word_at.ensures, writing_room turn.before.loop.invariant turn.loop-test.true c.before.before.word_at.ensures entry.requires.1.2)))
-    (λ c κs. let turn = c.before.before.before.before.before.before.before.before.before in (omega arith, owed_few turn.before.loop.invariant.good turn.before.loop.invariant.ahead turn.loop-test.true))
-    (λ c. let turn = c.before.before.before.before.before.before.before.before.before.before in omega (arith, owed_small turn.before.loop.invariant.good turn.before.loop.invariant.ahead turn.loop-test.true))
-    (λ c. let turn = c.before.before.before.before.before.before.before.before.before.before in omega (arith, owed_small turn.before.loop.invariant.good turn.before.loop.invariant.ahead turn.loop-test.true))
-    (λ c. let turn = c.before.before.before.before.before.before.before.before.before.before in writing_on turn.before.loop.invariant turn.loop-test.true c.before.before.before.before.before.before.before.before.word_at.ensures c.before.before.before.before.before.write_word.auto.1.0 c.before.before.before.before.before.write_word.auto.1.1.0 c.before.before.before.before.before.write_word.ensures c.owed-after.ensures)
-    (λ c. c.before.loop.invariant.good.size ∙ sym c.before.before.before.before.before.requires.1.0.size)
-    (λ c. c.before.loop.invariant.size)
-    (λ c. writing_done c.before.loop.invariant c.loop-test.false))
+    (λ c. writing_begin c.requires.1.0 c.requires.1.1 refl)
+    (λ c κs. owed_inside c.loop-owed.invariant.good c.loop-owed.invariant.ahead c.loop-owed-test.true)
+    (λ c κs. let turn = c in let entry = turn in (omega (arith, writing_less turn.loop-owed.invariant turn.loop-owed-test.true c.word_at-word.ensures), (turn.loop-owed.invariant.good, owed_stands turn.loop-owed.invariant.good turn.loop-owed.invariant.ahead turn.loop-owed-test.true c.word_at-word.ensures, writing_room turn.loop-owed.invariant turn.loop-owed-test.true c.word_at-word.ensures entry.requires.1.2)))
+    (λ c κs. let turn = c in (omega arith, owed_few turn.loop-owed.invariant.good turn.loop-owed.invariant.ahead turn.loop-owed-test.true))
+    (λ c. let turn = c in omega (arith, owed_small turn.loop-owed.invariant.good turn.loop-owed.invariant.ahead turn.loop-owed-test.true))
+    (λ c. let turn = c in omega (arith, owed_small turn.loop-owed.invariant.good turn.loop-owed.invariant.ahead turn.loop-owed-test.true))
+    (λ c. let turn = c in writing_on turn.loop-owed.invariant turn.loop-owed-test.true c.word_at-word.ensures c.write_word-written.auto.work c.write_word-written.auto.answer c.write_word-written.ensures c.owed_after-owed.ensures)
+    (λ c. c.loop-owed.invariant.good.size ∙ sym c.requires.1.0.size)
+    (λ c. c.loop-owed.invariant.size)
+    (λ c. writing_done c.loop-owed.invariant c.loop-owed-test.false))
     λ t. write-word-lts.spec
     (told_word t)
     (write_word_at t)
@@ -114,21 +114,21 @@ pub +write-terms-write-word-spec : {M : Type 1} → statement M
     (λ c κs. search rules)
     (λ c. omega arith)
     (λ c. omega arith)
-    (λ c κs. let entry = c.before.before.before.before.before.before.before in rw (write_item entry.requires.1.0 entry.requires.1.1 c.before.before.before.kind.ensures c.before.before.if1.true entry.ranges.word.fits c.sign.ensures) at entry.requires.1.2)
+    (λ c κs. let entry = c in rw (write_item entry.requires.1.0 entry.requires.1.1 c.kind.ensures c.if-kind-ne0.true entry.ranges.word.fits c.sign.ensures) at entry.requires.1.2)
     (λ c. search rules)
-    (λ c. let entry = c.before.before.before.before.before.before.before.before.before.before in rw (write_item entry.requires.1.0 entry.requires.1.1 c.before.before.before.before.before.before.kind.ensures c.before.before.before.before.before.if1.true entry.ranges.word.fits c.before.before.before.sign.ensures) (c.before.before.put.ensures entry.args.work.now))
-    (λ c κs. (c.before.before.before.before.before.before.requires.1.0, word_points c.before.before.before.before.before.before.requires.1.0 c.before.before.before.before.before.before.requires.1.1 c.before.before.kind.ensures c.before.if1.false))
-    (λ c κs. inside c.before.before.before.before.before.before.before.before.requires.1.0 c.before.follow.ensures.points)
+    (λ c. let entry = c in rw (write_item entry.requires.1.0 entry.requires.1.1 c.kind.ensures c.if-kind-ne0.true entry.ranges.word.fits c.sign.ensures) (c.put.ensures entry.args.work.now))
+    (λ c κs. (c.requires.1.0, word_points c.requires.1.0 c.requires.1.1 c.kind.ensures c.if-kind-ne0.false))
+    (λ c κs. inside c.requires.1.0 c.follow-r.ensures.points)
     (λ c κs. search rules)
     (λ c κs. search rules)
-    (λ c κs. let entry = c.before.before.before.before.before.before.before.before.before.before.before.before.before.before in (entry.requires.1.0.size, write_small entry.requires.1.0 entry.requires.1.1 c.before.before.before.before.before.before.before.before.before.before.kind.ensures c.before.before.before.before.before.before.before.before.before.if1.false c.before.before.before.before.before.before.before.follow.ensures c.before.before.before.before.before.word_at.ensures c.before.before.before.before.kind2.ensures c.before.before.before.if2.true c.variable-at.ensures, rw (write_free entry.requires.1.0 entry.requires.1.1 c.before.before.before.before.before.before.before.before.before.before.kind.ensures c.before.before.before.before.before.before.before.before.before.if1.false c.before.before.before.before.before.before.before.follow.ensures c.before.before.before.before.before.word_at.ensures c.before.before.before.before.kind2.ensures c.before.before.before.if2.true c.variable-at.ensures) at entry.requires.1.2))
+    (λ c κs. let entry = c in (entry.requires.1.0.size, write_small entry.requires.1.0 entry.requires.1.1 c.kind.ensures c.if-kind-ne0.false c.follow-r.ensures c.word_at-met.ensures c.kind-2.ensures c.if-kind-eq0.true c.variable_at.ensures, rw (write_free entry.requires.1.0 entry.requires.1.1 c.kind.ensures c.if-kind-ne0.false c.follow-r.ensures c.word_at-met.ensures c.kind-2.ensures c.if-kind-eq0.true c.variable_at.ensures) at entry.requires.1.2))
     (λ c. search rules)
     (λ c. search rules)
-    (λ c. let entry = c.before.before.before.before.before.before.before.before.before.before.before.before.before.before.before.before.before.before.before in rw (write_free entry.requires.1.0 entry.requires.1.1 c.before.before.before.before.before.before.before.before.before.before.before.before.before.before.before.kind.ensures c.before.before.before.before.before.before.before.before.before.before.before.before.before.before.if1.false c.before.before.before.before.before.before.before.before.before.before.before.before.follow.ensures c.before.before.before.before.before.before.before.before.before.before.word_at.ensures c.before.before.before.before.before.before.before.before.before.kind2.ensures c.before.before.before.before.before.before.before.before.if2.true c.before.before.before.before.before.variable-at.ensures) c.before.before.before.before.write-variable.ensures)
-    (λ c κs. let entry = c.before.before.before.before.before.before.before.before.before.before.before.before in room_left _ _ (sym (write_function entry.requires.1.0 entry.requires.1.1 c.before.before.before.before.before.before.before.before.kind.ensures c.before.before.before.before.before.before.before.if1.false c.before.before.before.before.before.follow.ensures c.before.before.before.word_at.ensures c.before.before.kind2.ensures c.before.if2.false (omega (arith, c.before.before.before.word_at.type-inv)) refl)) entry.requires.1.2)
-    (λ c. let entry = c.before.before.before.before.before.before.before.before.before.before.before.before.before.before.before.before.before in omega (arith, small entry.requires.1.0 c.before.before.before.before.before.before.before.before.before.before.follow.ensures.points))
+    (λ c. let entry = c in rw (write_free entry.requires.1.0 entry.requires.1.1 c.kind.ensures c.if-kind-ne0.false c.follow-r.ensures c.word_at-met.ensures c.kind-2.ensures c.if-kind-eq0.true c.variable_at.ensures) c.write_variable.ensures)
+    (λ c κs. let entry = c in room_left _ _ (sym (write_function entry.requires.1.0 entry.requires.1.1 c.kind.ensures c.if-kind-ne0.false c.follow-r.ensures c.word_at-met.ensures c.kind-2.ensures c.if-kind-eq0.false (omega (arith, c.word_at-met.type_inv)) refl)) entry.requires.1.2)
+    (λ c. let entry = c in omega (arith, small entry.requires.1.0 c.follow-r.ensures.points))
     (λ c κs. search rules)
-    (λ c κs. let entry = c.before.before.before.before.before.before.before.before.before.before.before.before.before.before.before.before.before.before in (omega (arith, ap length (write_function entry.requires.1.0 entry.requires.1.1 c.before.before.before.before.before.before.before.before.before.before.before.before.before.before.kind.ensures c.before.before.before.before.before.before.before.before.before.before.before.before.before.if1.false c.before.before.before.before.before.before.before.before.before.before.before.follow.ensures c.before.before.before.before.before.before.before.before.before.word_at.ensures c.before.before.before.before.before.before.before.before.kind2.ensures c.before.before.before.before.before.before.before.if2.false (omega (arith, c.before.before.before.before.before.before.before.before.before.word_at.type-inv)) c.arity.ensures), entry.requires.0), (entry.requires.1.0, write_ahead entry.requires.1.0 entry.requires.1.1 c.before.before.before.before.before.before.before.before.before.before.before.before.before.before.kind.ensures c.before.before.before.before.before.before.before.before.before.before.before.before.before.if1.false c.before.before.before.before.before.before.before.before.before.before.before.follow.ensures c.before.before.before.before.before.before.before.before.before.word_at.ensures c.before.before.before.before.before.before.before.before.kind2.ensures c.before.before.before.before.before.before.before.if2.false (omega (arith, c.before.before.before.before.before.before.before.before.before.word_at.type-inv)) c.arity.ensures, room_right _ _ (sym (write_function entry.requires.1.0 entry.requires.1.1 c.before.before.before.before.before.before.before.before.before.before.before.before.before.before.kind.ensures c.before.before.before.before.before.before.before.before.before.before.before.before.before.if1.false c.before.before.before.before.before.before.before.before.before.before.before.follow.ensures c.before.before.before.before.before.before.before.before.before.word_at.ensures c.before.before.before.before.before.before.before.before.kind2.ensures c.before.before.before.before.before.before.before.if2.false (omega (arith, c.before.before.before.before.before.before.before.before.before.word_at.type-inv)) c.arity.ensures)) entry.requires.1.2 c.before.before.before.before.before.put2.auto.0 (c.before.before.before.before.before.put2.ensures entry.args.work.now))))
+    (λ c κs. let entry = c in (omega (arith, ap length (write_function entry.requires.1.0 entry.requires.1.1 c.kind.ensures c.if-kind-ne0.false c.follow-r.ensures c.word_at-met.ensures c.kind-2.ensures c.if-kind-eq0.false (omega (arith, c.word_at-met.type_inv)) c.arity.ensures), entry.requires.0), (entry.requires.1.0, write_ahead entry.requires.1.0 entry.requires.1.1 c.kind.ensures c.if-kind-ne0.false c.follow-r.ensures c.word_at-met.ensures c.kind-2.ensures c.if-kind-eq0.false (omega (arith, c.word_at-met.type_inv)) c.arity.ensures, room_right _ _ (sym (write_function entry.requires.1.0 entry.requires.1.1 c.kind.ensures c.if-kind-ne0.false c.follow-r.ensures c.word_at-met.ensures c.kind-2.ensures c.if-kind-eq0.false (omega (arith, c.word_at-met.type_inv)) c.arity.ensures)) entry.requires.1.2 c.put-headed.auto.answer (c.put-headed.ensures entry.args.work.now))))
     (λ c. search rules)
     (λ c. search rules)
-    (λ c. let entry = c.before.before.before.before.before.before.before.before.before.before.before.before.before.before.before.before.before.before.before.before.before.before.before in rw (write_function entry.requires.1.0 entry.requires.1.1 c.before.before.before.before.before.before.before.before.before.before.before.before.before.before.before.before.before.before.before.kind.ensures c.before.before.before.before.before.before.before.before.before.before.before.before.before.before.before.before.before.before.if1.false c.before.before.before.before.before.before.before.before.before.before.before.before.before.before.before.before.follow.ensures c.before.before.before.before.before.before.before.before.before.before.before.before.before.before.word_at.ensures c.before.before.before.before.before.before.before.before.before.before.before.before.before.kind2.ensures c.before.before.before.before.before.before.before.before.before.before.before.before.if2.false (omega (arith, c.before.before.before.before.before.before.before.before.before.before.before.before.before.before.word_at.type-inv)) c.before.before.before.before.before.arity.ensures) (wrote_then (c.before.before.before.before.before.before.before.before.before.before.put2.ensures entry.args.work.now) c.before.before.before.before.write-terms.ensures))
+    (λ c. let entry = c in rw (write_function entry.requires.1.0 entry.requires.1.1 c.kind.ensures c.if-kind-ne0.false c.follow-r.ensures c.word_at-met.ensures c.kind-2.ensures c.if-kind-eq0.false (omega (arith, c.word_at-met.type_inv)) c.arity.ensures) (wrote_then (c.put-headed.ensures entry.args.work.now) c.write_terms.ensures))

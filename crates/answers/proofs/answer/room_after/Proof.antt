@@ -8,10 +8,10 @@ use Rattle.answers.proofs.answer.room_after.Tie as tie
 
 ruleset all = (rules, counting_laws)
 
-abbrev invariant-loop : tie.invariant-loop
+abbrev invariant-loop : tie.invariant-loop-copy
 invariant-loop file work room copies left₀ copy₀ left copy = CountingAll file work room copy left
 
-abbrev decreases-loop : tie.decreases-loop
+abbrev decreases-loop : tie.decreases-loop-copy
 decreases-loop file work room copies left₀ copy₀ left copy = copies - copy
 
 pub room_after_spec : {M : Type 1} → statement M
@@ -20,20 +20,20 @@ room_after_spec =
     (tie.spec
     invariant-loop
     decreases-loop
-    (λ c. omega (arith, c.before.before.before.requires.size))
+    (λ c. omega (arith, c.requires.size))
     (λ c. search all)
     (λ c κs. search all)
     (λ c. omega arith)
-    (λ c. omega (arith, c.before.before.before.before.before.before.requires.copies))
-    (λ c. let entry = c.before.before.before.before.before.before.before in omega (arith, entry.requires.size, entry.requires.copies))
+    (λ c. omega (arith, c.requires.copies))
+    (λ c. let entry = c in omega (arith, entry.requires.size, entry.requires.copies))
     (λ c. search all)
     (λ c. search all)
-    (λ c. let entry = c.before.before.before.before.before.before.before.before in all_other entry.requires c.before.before.before.before.loop.invariant c.before.before.before.loop-test.true c.before.before.wide.ensures c.if1.true)
-    (λ c κs. (c.before.before.before.before.before.before.before.before.requires, c.before.before.before.loop-test.true))
+    (λ c. let entry = c in all_other entry.requires c.loop-copy.invariant c.loop-copy-test.true c.wide.ensures c.if-work-wide-eq0.true)
+    (λ c κs. (c.requires, c.loop-copy-test.true))
     (λ c. search all)
     (λ c. search all)
-    (λ c. let turn = c.before.before.before.before.before.before in let entry = turn.before.before.before.before.before in all_over entry.requires turn.before.loop.invariant turn.loop-test.true c.before.before.before.before.before.wide.ensures c.before.before.before.if1.false c.before.before.room-after-copy.result c.before.before.room-after-copy.ensures (search all))
+    (λ c. let turn = c in let entry = turn in all_over entry.requires turn.loop-copy.invariant turn.loop-copy-test.true c.wide.ensures c.if-work-wide-eq0.false c.room_after_copy-after.result c.room_after_copy-after.ensures (search all))
     (λ c. search all)
     (λ c. search all)
-    (λ c. let turn = c.before.before.before.before.before.before.before in let entry = turn.before.before.before.before.before in all_on entry.requires turn.before.loop.invariant turn.loop-test.true c.before.before.before.before.before.before.wide.ensures c.before.before.before.before.if1.false _ c.before.before.before.room-after-copy.ensures c.before.after.given.1)
+    (λ c. let turn = c in let entry = turn in all_on entry.requires turn.loop-copy.invariant turn.loop-copy-test.true c.wide.ensures c.if-work-wide-eq0.false _ c.room_after_copy-after.ensures c.in-Left.is)
     (λ c. search all))

@@ -9,10 +9,10 @@ use Rattle.answers.proofs.answer.room_after_copy.Tie as tie
 
 ruleset all = (rules, counting_laws)
 
-abbrev invariant-loop : tie.invariant-loop
+abbrev invariant-loop : tie.invariant-loop-i
 invariant-loop file work copy room own count left₀ i₀ left i = CountingCopy file work copy count room i left
 
-abbrev decreases-loop : tie.decreases-loop
+abbrev decreases-loop : tie.decreases-loop-i
 decreases-loop file work copy room own count left₀ i₀ left i = count + 1 - i
 
 pub room_after_copy_spec : {M : Type 1} → statement M
@@ -21,17 +21,17 @@ room_after_copy_spec =
     (tie.spec
     invariant-loop
     decreases-loop
-    (λ c. omega (arith, c.before.before.requires.0.copies))
-    (λ c κs. copy_inside c.before.before.requires.0 c.before.before.requires.1)
+    (λ c. omega (arith, c.requires.0.copies))
+    (λ c κs. copy_inside c.requires.0 c.requires.1)
     (λ c κs. search all)
     (λ c. search all)
-    (λ c. omega (arith, copy_small c.before.before.before.before.before.before.requires.0 c.before.before.before.before.before.before.requires.1 c.before.loop.invariant c.loop-test.true))
-    (λ c κs. copy_word c.before.before.before.before.before.before.requires.0 c.before.before.before.before.before.before.requires.1 c.before.loop.invariant c.loop-test.true)
-    (λ c κs. let entry = c.before.before.before.before.before.before.before in (entry.requires.0, copy_stands entry.requires.0 entry.requires.1 c.before.before.loop.invariant c.before.loop-test.true c.word-at2.ensures))
+    (λ c. omega (arith, copy_small c.requires.0 c.requires.1 c.loop-i.invariant c.loop-i-test.true))
+    (λ c κs. copy_word c.requires.0 c.requires.1 c.loop-i.invariant c.loop-i-test.true)
+    (λ c κs. let entry = c in (entry.requires.0, copy_stands entry.requires.0 entry.requires.1 c.loop-i.invariant c.loop-i-test.true c.word_at-word.ensures))
     (λ c. search all)
     (λ c. search all)
     (λ c. search all)
-    (λ c. let turn = c.before.before.before.before.before in let entry = turn.before.before.before.before.before.before in omega (arith, copy_small entry.requires.0 entry.requires.1 turn.before.loop.invariant turn.loop-test.true))
+    (λ c. let turn = c in let entry = turn in omega (arith, copy_small entry.requires.0 entry.requires.1 turn.loop-i.invariant turn.loop-i-test.true))
     (λ c. omega arith)
-    (λ c. let turn = c.before.before.before.before.before in let entry = turn.before.before.before.before.before.before in copy_on entry.requires.0 entry.requires.1 turn.before.loop.invariant turn.loop-test.true c.before.before.before.before.word-at2.ensures _ c.before.before.before.room-after-word.ensures c.before.after.given.1)
+    (λ c. let turn = c in let entry = turn in copy_on entry.requires.0 entry.requires.1 turn.loop-i.invariant turn.loop-i-test.true c.word_at-word.ensures _ c.room_after_word-after.ensures c.in-Left.is)
     (λ c. search all))

@@ -7,10 +7,10 @@ use Rattle.answers.proofs.Repeats.{Choosing, choosing_begin, choosing_next, choo
 use Rattle.answers.proofs.once.choose.Statement.{statement}
 use Rattle.answers.proofs.once.choose.Tie as tie
 
-abbrev invariant-loop : tie.invariant-loop
+abbrev invariant-loop : tie.invariant-loop-copy
 invariant-loop file work₀ question copies copy₀ work copy = Choosing file work₀ work question copy
 
-abbrev decreases-loop : tie.decreases-loop
+abbrev decreases-loop : tie.decreases-loop-copy
 decreases-loop file work₀ question copies copy₀ work copy = copies - copy
 
 pub choose_spec : {M : Type 1} → statement M
@@ -19,15 +19,15 @@ choose_spec =
     (tie.spec
     invariant-loop
     decreases-loop
-    (λ c. omega (arith, c.before.before.before.requires.size))
-    (λ c. choosing_begin c.before.before.before.requires)
-    (λ c κs. choosing_next c.before.before.before.before.before.before.requires c.before.before.loop.invariant c.before.loop-test.true)
+    (λ c. omega (arith, c.requires.size))
+    (λ c. choosing_begin c.requires)
+    (λ c κs. choosing_next c.requires c.loop-copy.invariant c.loop-copy-test.true)
     (λ c κs. search rules)
-    (λ c. let turn = c.before.before.before.before.before in let entry = turn.before.before.before.before.before in omega (arith, entry.requires.copies, turn.loop-test.true, c.wide.ensures))
-    (λ c. let turn = c.before.before.before.before.before in let entry = turn.before.before.before.before.before in omega (arith, entry.requires.copies, turn.loop-test.true, c.wide.ensures))
-    (λ c. let turn = c.before.before.before.before.before in let entry = turn.before.before.before.before.before in omega (arith, entry.requires.copies, turn.loop-test.true, c.wide.ensures, c.before.before.before.weigh.ensures.still.good.size))
-    (λ c. let turn = c.before.before.before.before.before in let entry = turn.before.before.before.before.before in omega (arith, entry.requires.copies, turn.loop-test.true))
-    (λ c. omega (arith, c.before.before.before.before.before.loop-test.true))
-    (λ c. let turn = c.before.before.before.before.before in let entry = turn.before.before.before.before.before in choosing_on entry.requires turn.before.loop.invariant turn.loop-test.true c.before.before.before.weigh.ensures c.wide.ensures)
-    (λ c. c.before.loop.invariant.good.size ∙ sym c.before.before.before.before.before.requires.size)
-    (λ c. choosing_done c.before.before.before.before.before.requires c.before.loop.invariant c.loop-test.false))
+    (λ c. let turn = c in let entry = turn in omega (arith, entry.requires.copies, turn.loop-copy-test.true, c.wide.ensures))
+    (λ c. let turn = c in let entry = turn in omega (arith, entry.requires.copies, turn.loop-copy-test.true, c.wide.ensures))
+    (λ c. let turn = c in let entry = turn in omega (arith, entry.requires.copies, turn.loop-copy-test.true, c.wide.ensures, c.weigh-kept.ensures.still.good.size))
+    (λ c. let turn = c in let entry = turn in omega (arith, entry.requires.copies, turn.loop-copy-test.true))
+    (λ c. omega (arith, c.loop-copy-test.true))
+    (λ c. let turn = c in let entry = turn in choosing_on entry.requires turn.loop-copy.invariant turn.loop-copy-test.true c.weigh-kept.ensures c.wide.ensures)
+    (λ c. c.loop-copy.invariant.good.size ∙ sym c.requires.size)
+    (λ c. choosing_done c.requires c.loop-copy.invariant c.loop-copy-test.false))

@@ -6,10 +6,10 @@ use Rattle.answers.proofs.Repeats.{Looking, looking_begin, k_low, looking_passes
 use Rattle.answers.proofs.once.said_before.Statement.{statement}
 use Rattle.answers.proofs.once.said_before.Tie as tie
 
-abbrev invariant-loop : tie.invariant-loop
+abbrev invariant-loop : tie.invariant-loop-earlier
 invariant-loop file work₀ copy earlier₀ work earlier = Looking file work₀ work copy earlier
 
-abbrev decreases-loop : tie.decreases-loop
+abbrev decreases-loop : tie.decreases-loop-earlier
 decreases-loop file work₀ copy earlier₀ work earlier = earlier
 
 pub said_before_spec : {M : Type 1} → statement M
@@ -18,18 +18,18 @@ said_before_spec =
     (tie.spec
     invariant-loop
     decreases-loop
-    (λ c. looking_begin c.before.before.requires)
-    (λ c. omega (arith, c.loop-test.true))
+    (λ c. looking_begin c.requires)
+    (λ c. omega (arith, c.loop-earlier-test.true))
     (λ c κs. search rules)
-    (λ c. omega (arith, k_low c.before.before.before.before.before.requires c.before.before.loop.invariant c.before.loop-test.true, c.wide.ensures))
-    (λ c. omega (arith, k_low c.before.before.before.before.before.requires c.before.before.loop.invariant c.before.loop-test.true, c.wide.ensures))
-    (λ c. omega (arith, k_low c.before.before.before.before.before.before.requires c.before.before.before.loop.invariant c.before.before.loop-test.true, c.before.wide.ensures, c.before.before.before.loop.invariant.still.good.size))
-    (λ c. omega (arith, c.before.before.before.loop-test.true))
-    (λ c. let entry = c.before.before.before.before.before.before.before in looking_passes entry.requires c.before.before.before.before.loop.invariant c.before.before.before.loop-test.true c.before.before.wide.ensures c.if1.true)
-    (λ c κs. let turn = c.before.before.before.before in let entry = turn.before.before.before.before in looking_twins entry.requires turn.before.loop.invariant turn.loop-test.true c.before.before.before.wide.ensures c.before.if1.false)
+    (λ c. omega (arith, k_low c.requires c.loop-earlier.invariant c.loop-earlier-test.true, c.wide.ensures))
+    (λ c. omega (arith, k_low c.requires c.loop-earlier.invariant c.loop-earlier-test.true, c.wide.ensures))
+    (λ c. omega (arith, k_low c.requires c.loop-earlier.invariant c.loop-earlier-test.true, c.wide.ensures, c.loop-earlier.invariant.still.good.size))
+    (λ c. omega (arith, c.loop-earlier-test.true))
+    (λ c. let entry = c in looking_passes entry.requires c.loop-earlier.invariant c.loop-earlier-test.true c.wide.ensures c.if-work-wide-eq0.true)
+    (λ c κs. let turn = c in let entry = turn in looking_twins entry.requires turn.loop-earlier.invariant turn.loop-earlier-test.true c.wide.ensures c.if-work-wide-eq0.false)
     (λ c. search rules)
-    (λ c. let turn = c.before.before.before.before.before.before.before.before in let entry = turn.before.before.before.before in looking_found entry.requires turn.before.loop.invariant turn.loop-test.true c.before.before.before.before.before.before.before.wide.ensures c.before.before.before.before.before.if1.false c.before.before.before.same-disjunct.ensures c.if2.true)
-    (λ c. omega (arith, c.before.before.before.before.before.before.before.before.loop-test.true))
-    (λ c. let turn = c.before.before.before.before.before.before.before.before in let entry = turn.before.before.before.before in looking_on entry.requires turn.before.loop.invariant turn.loop-test.true c.before.before.before.before.before.before.before.wide.ensures c.before.before.before.before.before.if1.false c.before.before.before.same-disjunct.ensures c.if2.false)
-    (λ c. c.before.loop.invariant.still.good.size ∙ sym c.before.before.before.before.requires.good.size)
-    (λ c. looking_done c.before.before.before.before.requires c.before.loop.invariant c.loop-test.false))
+    (λ c. let turn = c in let entry = turn in looking_found entry.requires turn.loop-earlier.invariant turn.loop-earlier-test.true c.wide.ensures c.if-work-wide-eq0.false c.same_disjunct.ensures c.if-same_disjunct.true)
+    (λ c. omega (arith, c.loop-earlier-test.true))
+    (λ c. let turn = c in let entry = turn in looking_on entry.requires turn.loop-earlier.invariant turn.loop-earlier-test.true c.wide.ensures c.if-work-wide-eq0.false c.same_disjunct.ensures c.if-same_disjunct.false)
+    (λ c. c.loop-earlier.invariant.still.good.size ∙ sym c.requires.good.size)
+    (λ c. looking_done c.requires c.loop-earlier.invariant c.loop-earlier-test.false))

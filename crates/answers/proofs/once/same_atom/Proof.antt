@@ -1,6 +1,5 @@
 -- The atoms are made equal and what was bound for it is taken back.
 use borrow.Author.Rules.{rules}
-use Rattle.tableaux.proofs.Extending.{not_made}
 use Rattle.answers.proofs.Repeats.{atoms_apart, atoms_bound, atoms_same}
 use Rattle.answers.proofs.once.same_atom.Statement.{statement}
 use Rattle.answers.proofs.once.same_atom.Tie as tie
@@ -15,8 +14,8 @@ same_atom_spec =
     (λ c κs. search rules)
     (λ c. search rules)
     (λ c. search rules)
-    (λ c. let entry = c.before.before.before.before.before.before.before.before.before.before.before.before.before in atoms_apart entry.requires.0 entry.requires.1 c.before.before.before.before.before.before.before.before.meet-atoms.ensures (c.before.before.before.undo.ensures _ c.before.before.before.before.before.before.before.before.meet-atoms.ensures.grown.good) (not_made _ c.match.keys2))
+    (λ c. let entry = c in atoms_apart entry.requires.0 entry.requires.1 c.meet_atoms-met.ensures (c.undo.ensures _ c.meet_atoms-met.ensures.grown.good) c.in_default.not-Made)
     (λ c. search rules)
-    (λ c. let entry = c.before.before.before.before.before.before.before.before.before.before.before.before.before.before.before in atoms_bound entry.requires.0 entry.requires.1 c.before.before.before.before.before.before.before.before.before.before.meet-atoms.ensures (c.before.before.before.before.before.undo.ensures _ c.before.before.before.before.before.before.before.before.before.before.meet-atoms.ensures.grown.good) c.before.enum_told.given.1 c.if1.true)
+    (λ c. let entry = c in atoms_bound entry.requires.0 entry.requires.1 c.meet_atoms-met.ensures (c.undo.ensures _ c.meet_atoms-met.ensures.grown.good) c.in-Made.is c.if-bound-kept.true)
     (λ c. search rules)
-    (λ c. let entry = c.before.before.before.before.before.before.before.before.before.before.before.before.before.before.before in atoms_same entry.requires.0 entry.requires.1 c.before.before.before.before.before.before.before.before.before.before.meet-atoms.ensures (c.before.before.before.before.before.undo.ensures _ c.before.before.before.before.before.before.before.before.before.before.meet-atoms.ensures.grown.good) c.before.enum_told.given.1 c.if1.false))
+    (λ c. let entry = c in atoms_same entry.requires.0 entry.requires.1 c.meet_atoms-met.ensures (c.undo.ensures _ c.meet_atoms-met.ensures.grown.good) c.in-Made.is c.if-bound-kept.false))

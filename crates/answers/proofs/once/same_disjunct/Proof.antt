@@ -7,10 +7,10 @@ use Rattle.answers.proofs.Repeats.{Comparing, comparing_inside, comparing_begin,
 use Rattle.answers.proofs.once.same_disjunct.Statement.{statement}
 use Rattle.answers.proofs.once.same_disjunct.Tie as tie
 
-abbrev invariant-loop : tie.invariant-loop
+abbrev invariant-loop : tie.invariant-loop-offset
 invariant-loop file work₀ copy other own count offset₀ work offset = Comparing file work₀ work copy other count offset
 
-abbrev decreases-loop : tie.decreases-loop
+abbrev decreases-loop : tie.decreases-loop-offset
 decreases-loop file work₀ copy other own count offset₀ work offset = count + 1 - offset
 
 pub same_disjunct_spec : {M : Type 1} → statement M
@@ -19,24 +19,24 @@ same_disjunct_spec =
     (tie.spec
     invariant-loop
     decreases-loop
-    (λ c. omega (arith, c.before.before.requires.made, c.before.before.requires.good.copies))
-    (λ c κs. comparing_inside c.before.before.before.requires)
+    (λ c. omega (arith, c.requires.made, c.requires.good.copies))
+    (λ c κs. comparing_inside c.requires)
     (λ c κs. search rules)
-    (λ c. comparing_begin c.before.before.before.before.before.requires c.before.word_at.ensures c.following.ensures)
-    (λ c. omega (arith, comparing_small c.before.before.before.before.before.before.before.before.requires c.before.before.loop.invariant c.before.loop-test.true))
-    (λ c κs. comparing_word c.before.before.before.before.before.before.before.before.requires c.before.before.loop.invariant c.before.loop-test.true)
+    (λ c. comparing_begin c.requires c.word_at.ensures c.following-count.ensures)
+    (λ c. omega (arith, comparing_small c.requires c.loop-offset.invariant c.loop-offset-test.true))
+    (λ c κs. comparing_word c.requires c.loop-offset.invariant c.loop-offset-test.true)
     (λ c κs. search rules)
-    (λ c. let turn = c.before.before.before.before in let entry = turn.before.before.before.before.before.before.before in omega (arith, comparing_small entry.requires turn.before.loop.invariant turn.loop-test.true))
-    (λ c. omega (arith, c.before.before.before.before.loop-test.true))
-    (λ c. let turn = c.before.before.before.before in let entry = turn.before.before.before.before.before.before.before in comparing_passes entry.requires turn.before.loop.invariant turn.loop-test.true c.before.before.word-at2.ensures c.before.kind.ensures c.if1.true)
-    (λ c. let turn = c.before.before.before.before.before in let entry = turn.before.before.before.before.before.before.before in omega (arith, comparing_small entry.requires turn.before.loop.invariant turn.loop-test.true))
-    (λ c. let entry = c.before.before.before.before.before.before.before.before.before.before.before.before in omega (arith, entry.requires.also_made, entry.requires.good.copies))
-    (λ c. let turn = c.before.before.before.before.before in let entry = turn.before.before.before.before.before.before.before in omega (arith, comparing_small_too entry.requires turn.before.loop.invariant turn.loop-test.true))
-    (λ c κs. let turn = c.before.before.before.before.before in let entry = turn.before.before.before.before.before.before.before in (turn.before.loop.invariant.still.good, comparing_alike entry.requires turn.before.loop.invariant turn.loop-test.true c.before.before.before.word-at2.ensures c.before.before.kind.ensures c.before.if1.false))
+    (λ c. let turn = c in let entry = turn in omega (arith, comparing_small entry.requires turn.loop-offset.invariant turn.loop-offset-test.true))
+    (λ c. omega (arith, c.loop-offset-test.true))
+    (λ c. let turn = c in let entry = turn in comparing_passes entry.requires turn.loop-offset.invariant turn.loop-offset-test.true c.word_at-in-loop-offset.ensures c.kind.ensures c.if-kind-ne2.true)
+    (λ c. let turn = c in let entry = turn in omega (arith, comparing_small entry.requires turn.loop-offset.invariant turn.loop-offset-test.true))
+    (λ c. let entry = c in omega (arith, entry.requires.also_made, entry.requires.good.copies))
+    (λ c. let turn = c in let entry = turn in omega (arith, comparing_small_too entry.requires turn.loop-offset.invariant turn.loop-offset-test.true))
+    (λ c κs. let turn = c in let entry = turn in (turn.loop-offset.invariant.still.good, comparing_alike entry.requires turn.loop-offset.invariant turn.loop-offset-test.true c.word_at-in-loop-offset.ensures c.kind.ensures c.if-kind-ne2.false))
     (λ c. search rules)
-    (λ c. let turn = c.before.before.before.before.before.before.before.before.before in let entry = turn.before.before.before.before.before.before.before in comparing_stops entry.requires turn.before.loop.invariant turn.loop-test.true c.before.before.before.before.before.before.before.word-at2.ensures c.before.before.before.before.before.before.kind.ensures c.before.before.before.before.before.if1.false c.before.before.before.same-atom.ensures c.if2.true)
-    (λ c. let turn = c.before.before.before.before.before.before.before.before.before in let entry = turn.before.before.before.before.before.before.before in omega (arith, comparing_small entry.requires turn.before.loop.invariant turn.loop-test.true))
-    (λ c. omega (arith, c.before.before.before.before.before.before.before.before.before.loop-test.true))
-    (λ c. let turn = c.before.before.before.before.before.before.before.before.before in let entry = turn.before.before.before.before.before.before.before in comparing_on entry.requires turn.before.loop.invariant turn.loop-test.true c.before.before.before.before.before.before.before.word-at2.ensures c.before.before.before.before.before.before.kind.ensures c.before.before.before.before.before.if1.false c.before.before.before.same-atom.ensures c.if2.false)
-    (λ c. c.before.loop.invariant.still.good.size ∙ sym c.before.before.before.before.before.before.before.requires.good.size)
-    (λ c. comparing_done c.before.before.before.before.before.before.before.requires c.before.loop.invariant c.loop-test.false))
+    (λ c. let turn = c in let entry = turn in comparing_stops entry.requires turn.loop-offset.invariant turn.loop-offset-test.true c.word_at-in-loop-offset.ensures c.kind.ensures c.if-kind-ne2.false c.same_atom.ensures (rw c.if-not-same_atom.true))
+    (λ c. let turn = c in let entry = turn in omega (arith, comparing_small entry.requires turn.loop-offset.invariant turn.loop-offset-test.true))
+    (λ c. omega (arith, c.loop-offset-test.true))
+    (λ c. let turn = c in let entry = turn in comparing_on entry.requires turn.loop-offset.invariant turn.loop-offset-test.true c.word_at-in-loop-offset.ensures c.kind.ensures c.if-kind-ne2.false c.same_atom.ensures (rw c.if-not-same_atom.false))
+    (λ c. c.loop-offset.invariant.still.good.size ∙ sym c.requires.good.size)
+    (λ c. comparing_done c.requires c.loop-offset.invariant c.loop-offset-test.false))
