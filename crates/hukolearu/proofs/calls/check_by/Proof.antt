@@ -13,44 +13,44 @@ use Rattle.hukolearu.proofs.CallsTold.{refuses, tells, all_passed, check_refused
 use Rattle.hukolearu.proofs.calls.check_by.Statement.{statement}
 use Rattle.hukolearu.proofs.calls.check_by.Tie as tie
 
-asked : tie.After-enter → CheckAsked
-asked c = let a = c.before.before.before.before.before.args in check_with a.file.now a.conditions.bound a.offered.now a.answer.now a.work.now
+asked : tie.After-enter-entry → CheckAsked
+asked c = let a = c.args in check_with a.file.now a.conditions.bound a.offered.now a.answer.now a.work.now
 
-rules : tie.After-enter → Profile
-rules c = profile_of c.before.before.before.before.before.args.conditions.restarts
+profile : tie.After-enter-entry → Profile
+profile c = profile_of c.args.conditions.restarts
 
-accepted : (c : tie.After-entry2) → CheckAccepted (asked c.before.before)
+accepted : (c : tie.In-Open) → CheckAccepted (asked c.before)
 unfolding asked
-accepted c = opened _ _ c.before.before.enter.ensures c.entry2.given.1
+accepted c = opened _ _ c.enter-entry.ensures c.in-Open.is
 
-refused-at-door : tie.Need-returns
-unfolding asked rules
+refused-at-door : tie.Need-returns-in-Refused
+unfolding asked profile
 refused-at-door c =
-    let door = c.before.before.before.before.before.before in
-    let e = check_refused (rules door.before.before) (asked door.before.before) door.before.before.enter.ensures door.entry.given.1 in
+    let entered = c.before.before.before.before.before.before in
+    let e = check_refused (profile entered) (asked entered) c.enter-entry.ensures c.in-Refused.is in
     let t = refuses e [] _ c.refused.ensures in
-    (t.numbers, (t.words, c.before.before.before.leave.ensures))
+    (t.numbers, (t.words, c.leave.ensures))
 
-requires : tie.Need-checked-requires
-unfolding asked rules
+requires : tie.Need-checked-outcome-requires
+unfolding asked profile
 requires c κs =
-    let door = c.before.before.before in
-    let question = at_question _ (check_inputs (asked door.before.before)) door.before.before.enter.ensures door.entry2.given.1 in
-    all_passed door.before.before.before.before.before.before.before.args.work.now (accepted door) question refl
+    let entered = c.before.before.before in
+    let question = at_question _ (check_inputs (asked entered)) c.enter-entry.ensures c.in-Open.is in
+    all_passed c.args.work.now (accepted c.before.before) question refl
 
-admitted : tie.Need-returns-2
-unfolding asked rules
+admitted : tie.Need-returns-in-Open
+unfolding asked profile
 admitted c =
-    let door = c.before.before.before.before.before.before.before.before.before.before.before.before in
-    let inside = c.before.before.before.before.before.before.before.before.checked in
-    let e = check_admitted (rules door.before.before) (asked door.before.before) door.before.before.enter.ensures door.entry2.given.1 in
+    let entered = c.before.before.before.before.before.before.before.before.before.before.before.before in
+    let inside = c.checked-outcome in
+    let e = check_admitted (profile entered) (asked entered) c.enter-entry.ensures c.in-Open.is in
     let t = tells e inside.ensures in
-    let part : List ℕ = inside.new.1.1.1.1.1.0 in
-    let rest = work_left _ part (accepted door).enough_work inside.auto.1.1.1.1.1.0 in
-    (t.numbers, (t.words, c.before.before.leave2.ensures ∙ rest))
+    let part : List ℕ = inside.new.work in
+    let rest = work_left _ part (accepted c.before.before.before.before.before.before.before.before.before.before.before).enough_work inside.auto.work in
+    (t.numbers, (t.words, c.leave-in-Open.ensures ∙ rest))
 
 pub check_by_spec : {M : Type 1} → statement M
-unfolding asked rules
+unfolding asked profile
 check_by_spec =
     tie.close
     (tie.spec
@@ -59,8 +59,8 @@ check_by_spec =
     (λ c κs. search rules)
     (λ c κs. search rules)
     (λ c. search rules)
-    (λ c. (accepted c.before.before).enough_work)
-    (λ c. sym (length-take-le work_words c.before.before.before.before.before.before.before.before.before.before.args.work.now (accepted c.before.before.before).enough_work))
+    (λ c. (accepted c.before).enough_work)
+    (λ c. sym (length-take-le work_words c.args.work.now (accepted c.before.before).enough_work))
     requires
     (λ c κs. search rules)
     (λ c. search rules)

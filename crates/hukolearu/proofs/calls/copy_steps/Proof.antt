@@ -13,10 +13,10 @@ use Rattle.hukolearu.specs.Calls.{at_front}
 use Rattle.hukolearu.proofs.calls.copy_steps.Statement.{statement}
 use Rattle.hukolearu.proofs.calls.copy_steps.Tie as tie
 
-abbrev invariant-loop : tie.invariant-loop
+abbrev invariant-loop : tie.invariant-loop-i
 invariant-loop work proof₀ count n i₀ proof i = (i ≤ n) × (proof ≡ paste proof₀ 0 (drop step_places work) i)
 
-abbrev decreases-loop : tie.decreases-loop
+abbrev decreases-loop : tie.decreases-loop-i
 decreases-loop work proof₀ count n i₀ proof i = n - i
 
 module _ (m d : List ℕ) (n i : ℕ) {p : List ℕ} (room : length m ≡ work_words) (few : n ≤ most_leaves) (enough : n ≤ length d) (e : p ≡ paste d 0 (drop step_places m) i) where
@@ -43,14 +43,14 @@ copy_steps_spec =
     invariant-loop
     decreases-loop
     (λ c κs. search rules)
-    (λ c. let a = c.before.before.before in (omega arith, paste-zero a.args.proof.now 0 (drop step_places a.args.work.now)))
+    (λ c. let a = c in (omega arith, paste-zero a.args.proof.now 0 (drop step_places a.args.work.now)))
     (λ c. omega arith)
     (λ c. omega arith)
     (λ c. omega arith)
     (λ c. omega arith)
-    (λ c. let a = c.before.before.before.before.before.before in omega (arith, copied-length a.args.work.now a.args.proof.now a.args.count c.before.before.loop.i a.requires.0 a.requires.1 a.requires.2 c.before.before.loop.invariant.1 (omega arith)))
+    (λ c. let a = c in omega (arith, copied-length a.args.work.now a.args.proof.now a.args.count c.loop-i.i a.requires.0 a.requires.1 a.requires.2 c.loop-i.invariant.1 (omega arith)))
     (λ c. omega arith)
     (λ c. omega arith)
-    (λ c. let a = c.before.before.before.before.before.before in (omega arith, copied_more a.args.work.now a.args.proof.now a.args.count c.before.before.loop.i a.requires.0 a.requires.1 a.requires.2 c.before.before.loop.invariant.1 (omega arith)))
-    (λ c. let a = c.before.before.before.before.before in copied-length a.args.work.now a.args.proof.now a.args.count c.before.loop.i a.requires.0 a.requires.1 a.requires.2 c.before.loop.invariant.1 (omega arith))
-    (λ c. let a = c.before.before.before.before.before in copied_all a.args.work.now a.args.proof.now a.args.count c.before.loop.i a.requires.0 a.requires.1 a.requires.2 c.before.loop.invariant.1 (omega arith) (omega arith)))
+    (λ c. let a = c in (omega arith, copied_more a.args.work.now a.args.proof.now a.args.count c.loop-i.i a.requires.0 a.requires.1 a.requires.2 c.loop-i.invariant.1 (omega arith)))
+    (λ c. let a = c in copied-length a.args.work.now a.args.proof.now a.args.count c.loop-i.i a.requires.0 a.requires.1 a.requires.2 c.loop-i.invariant.1 (omega arith))
+    (λ c. let a = c in copied_all a.args.work.now a.args.proof.now a.args.count c.loop-i.i a.requires.0 a.requires.1 a.requires.2 c.loop-i.invariant.1 (omega arith) (omega arith)))

@@ -10,10 +10,10 @@ fits_spec =
     (tie.spec
     (λ c κs. search rules)
     (λ c κs. search rules)
-    (λ c κs. c.before.before.before.before.choose.ensures.good)
+    (λ c κs. c.choose.ensures.good)
     (λ c. search rules)
     (λ c. search rules)
     (λ c. search rules)
-    (λ c. chosen_over c.before.before.before.before.before.before.before.choose.ensures c.before.before.Room-after.result c.before.before.before.before.before.before.before.before.before.before.before.args.words c.before.before.before.room_of.ensures c.before.before.Room-after.ensures (search rules))
+    (λ c. chosen_over c.choose.ensures c.room_after-room.result c.args.words c.room_of.ensures c.room_after-room.ensures (search rules))
     (λ c. search rules)
-    (λ c. chosen_left c.before.before.before.before.before.before.before.choose.ensures c.before.before.Room-after.result c.before.before.before.before.before.before.before.before.before.before.before.args.words c.before.before.before.room_of.ensures c.before.before.Room-after.ensures c.enum_told.given.1))
+    (λ c. chosen_left c.choose.ensures c.room_after-room.result c.args.words c.room_of.ensures c.room_after-room.ensures c.in-Left.is))

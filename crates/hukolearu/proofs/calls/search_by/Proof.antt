@@ -13,43 +13,43 @@ use Rattle.hukolearu.proofs.CallsTold.{refuses, tells, all_passed, search_refuse
 use Rattle.hukolearu.proofs.calls.search_by.Statement.{statement}
 use Rattle.hukolearu.proofs.calls.search_by.Tie as tie
 
-abbrev asked : tie.After-enter → SearchAsked
-asked c = let a = c.before.before.before.before.before.before.args in search_with a.file.now a.conditions.bound a.budget a.proof.now a.answer.now a.work.now
+abbrev asked : tie.After-enter-entry → SearchAsked
+asked c = let a = c.args in search_with a.file.now a.conditions.bound a.budget a.proof.now a.answer.now a.work.now
 
-abbrev rules : tie.After-enter → Profile
-rules c = profile_of c.before.before.before.before.before.before.args.conditions.restarts
+abbrev profile : tie.After-enter-entry → Profile
+profile c = profile_of c.args.conditions.restarts
 
-says : (c : tie.After-enter) → c.enter.result ≡ entry_of (asked c).file (inputs_by (rules c) (asked c))
+says : (c : tie.After-enter-entry) → c.enter-entry.result ≡ entry_of (asked c).file (inputs_by (profile c) (asked c))
 says c =
-    c.enter.ensures
+    c.enter-entry.ensures
     ∙ ap (λ (least : ℕ). entry_of (asked c).file (record { bound = (asked c).bound; work = (asked c).work_room; proof = (asked c).proof_room; least = least }))
-    c.before.longest-proof.ensures
+    c.longest_proof-least.ensures
 
-accepted : (c : tie.After-entry2) → Admitted (asked c.before.before).file (inputs_by (rules c.before.before) (asked c.before.before))
-accepted c = opened _ _ (says c.before.before) c.entry2.given.1
+accepted : (c : tie.In-Open) → Admitted (asked c.before).file (inputs_by (profile c.before) (asked c.before))
+accepted c = opened _ _ (says c.before) c.in-Open.is
 
-refused-at-door : tie.Need-returns
+refused-at-door : tie.Need-returns-in-Refused
 refused-at-door c =
-    let door = c.before.before.before.before.before.before in
-    let e = search_refused (rules door.before.before) (asked door.before.before) (says door.before.before) door.entry.given.1 in
+    let entered = c.before.before.before.before.before.before in
+    let e = search_refused (profile entered) (asked entered) (says entered) c.in-Refused.is in
     let t = refuses e _ _ c.refused.ensures in
-    (t.numbers, (t.steps, (t.words, c.before.before.before.leave.ensures)))
+    (t.numbers, (t.steps, (t.words, c.leave.ensures)))
 
-requires : tie.Need-searched-by-requires
+requires : tie.Need-searched_by-outcome-requires
 requires c κs =
-    let door = c.before.before.before.before in
-    let question = at_question _ (inputs_by (rules door.before.before) (asked door.before.before)) (says door.before.before) door.entry2.given.1 in
-    (all_passed door.before.before.before.before.before.before.before.before.args.work.now (accepted door) question refl, (accepted door).enough_proof)
+    let entered = c.before.before.before.before in
+    let question = at_question _ (inputs_by (profile entered) (asked entered)) (says entered) c.in-Open.is in
+    (all_passed c.args.work.now (accepted c.before.before.before) question refl, (accepted c.before.before.before).enough_proof)
 
-admitted : tie.Need-returns-2
+admitted : tie.Need-returns-in-Open
 admitted c =
-    let door = c.before.before.before.before.before.before.before.before.before.before.before.before.before.before.before in
-    let inside = c.before.before.before.before.before.before.before.before.before.before.searched-by in
-    let e = search_admitted (rules door.before.before) (asked door.before.before) (says door.before.before) door.entry2.given.1 in
+    let entered = c.before.before.before.before.before.before.before.before.before.before.before.before.before.before.before in
+    let inside = c.searched_by-outcome in
+    let e = search_admitted (profile entered) (asked entered) (says entered) c.in-Open.is in
     let t = tells e inside.ensures in
-    let part : List ℕ = inside.new.1.1.1.1.1.1.0 in
-    let rest = work_left _ part (accepted door).enough_work inside.auto.1.1.1.1.1.1.0 in
-    (t.numbers, (t.steps, (t.words, c.before.before.leave2.ensures ∙ rest)))
+    let part : List ℕ = inside.new.work in
+    let rest = work_left _ part (accepted c.before.before.before.before.before.before.before.before.before.before.before.before.before.before).enough_work inside.auto.work in
+    (t.numbers, (t.steps, (t.words, c.leave-in-Open.ensures ∙ rest)))
 
 pub search_by_spec : {M : Type 1} → statement M
 search_by_spec =
@@ -61,8 +61,8 @@ search_by_spec =
     (λ c κs. search rules)
     (λ c κs. search rules)
     (λ c. search rules)
-    (λ c. (accepted c.before.before.before).enough_work)
-    (λ c. sym (length-take-le work_words c.before.before.before.before.before.before.before.before.before.before.before.before.args.work.now (accepted c.before.before.before.before).enough_work))
+    (λ c. (accepted c.before.before).enough_work)
+    (λ c. sym (length-take-le work_words c.args.work.now (accepted c.before.before.before).enough_work))
     requires
     (λ c κs. search rules)
     (λ c. search rules)

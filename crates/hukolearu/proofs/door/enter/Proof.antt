@@ -14,5 +14,5 @@ enter_spec =
     (λ c. search all)
     (λ c κs. search all)
     (λ c. search all)
-    (λ c. small_question _ c.before.before.before.judge.ensures c.before.if4.false)
+    (λ c. small_question _ c.judge-judged.ensures c.if-judged-ne0.false)
     (λ c. search all))
