@@ -7,7 +7,7 @@ use crate::progress;
 use hukolearu::{Outcome, calls, status};
 
 // The bound of the last search, the tries of all bounds up to it, and what that search said.
-#[derive(Drop)]
+#[derive(Clone, Copy)]
 pub struct Looked {
     pub bound: u32,
     pub tries: u32,

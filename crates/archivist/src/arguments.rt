@@ -9,7 +9,7 @@ use std::rt::Env;
 use text::part;
 
 // Limit and budget as they are asked, or else; whether the proof is to be written; whether the arguments are as they should be.
-#[derive(Drop)]
+#[derive(Clone, Copy)]
 pub struct Options {
     pub limit: u32,
     pub budget: u32,

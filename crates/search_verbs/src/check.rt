@@ -6,7 +6,7 @@ use std::io;
 use text::part;
 
 // Who has a proof checked, and by which rules.
-#[derive(Drop)]
+#[derive(Clone, Copy)]
 enum Asker {
     Collections,
     Education,

@@ -8,7 +8,7 @@ use text::part;
 use words::fields::wide;
 
 // The calls that are asked as a search is.
-#[derive(Drop)]
+#[derive(Clone, Copy)]
 enum Run {
     Search,
     Smallest,
