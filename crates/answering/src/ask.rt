@@ -20,6 +20,7 @@ fn refused(name: &[u8], text: &[u8], read: TextRead, out: &mut [u8]) -> usize
 
 // The question of a file put bound by bound, and the result.
 fn answer(
+    rt: &impl Eprint,
     watched: bool,
     o: Options,
     name: &[u8],
@@ -34,7 +35,7 @@ fn answer(
     let mut words = rooms::answer();
     let mut work = rooms::file();
     let l = look::look(
-        watched, file, o.limit, o.budget, &mut proof, &mut words, &mut work,
+        rt, watched, file, o.limit, o.budget, &mut proof, &mut words, &mut work,
     );
     let steps = wide(l.outcome.proof);
     let count = wide(l.outcome.answer);
@@ -52,7 +53,14 @@ fn answer(
 }
 
 // What `ask` writes of a text whose file has this name, whether someone watches or not.
-pub fn ask(watched: bool, o: Options, name: &[u8], text: &[u8], out: &mut [u8]) -> usize
+pub fn ask(
+    rt: &impl Eprint,
+    watched: bool,
+    o: Options,
+    name: &[u8],
+    text: &[u8],
+    out: &mut [u8],
+) -> usize
     ensures { Asks o name.now text.now out.old out.new result }
 {
     if 32 < o.limit {
@@ -64,6 +72,7 @@ pub fn ask(watched: bool, o: Options, name: &[u8], text: &[u8], out: &mut [u8]) 
         return refused(name, text, read, out);
     }
     answer(
+        rt,
         watched,
         o,
         name,

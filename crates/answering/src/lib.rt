@@ -11,7 +11,7 @@ mod rooms;
 mod tell;
 
 // What is asked: the largest bound, the tries for all bounds, and whether the proof is to be written.
-#[derive(Drop)]
+#[derive(Clone, Copy)]
 pub struct Options {
     pub limit: u32,
     pub budget: u32,

@@ -7,7 +7,7 @@ use crate::progress;
 use hukolearu::{Outcome, calls, status};
 
 // The bound of the last search, the tries of all bounds up to it, and what that search said.
-#[derive(Drop)]
+#[derive(Clone, Copy)]
 pub struct Looked {
     pub bound: u32,
     pub tries: u32,
@@ -37,6 +37,7 @@ fn at_bound(
 
 // Where someone watches, each bound that says "none" is told on the way.
 pub fn look(
+    rt: &impl Eprint,
     watched: bool,
     file: &[u32],
     limit: u32,
@@ -56,7 +57,7 @@ pub fn look(
             return last;
         }
         used = last.tries;
-        progress::tell(watched, bound, used);
+        progress::tell(rt, watched, bound, used);
         bound += 1;
     }
     at_bound(file, bound, budget, used, proof, answer, work)

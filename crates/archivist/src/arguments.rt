@@ -1,11 +1,15 @@
 // The program's arguments: a command, its options, and the names of files last.
-use libc::STDERR_FILENO;
+use crate::streams;
+use crate::streams::Stream;
 use requests::piece;
 use requests::piece::Number;
+use std::env::FillError;
+use std::io;
+use std::rt::Env;
 use text::part;
 
 // Limit and budget as they are asked, or else; whether the proof is to be written; whether the arguments are as they should be.
-#[derive(Drop)]
+#[derive(Clone, Copy)]
 pub struct Options {
     pub limit: u32,
     pub budget: u32,
@@ -13,31 +17,52 @@ pub struct Options {
     pub good: bool,
 }
 
-pub fn usage() {
-    io::write_all(
-        STDERR_FILENO,
+pub fn usage(rt: &HostRuntime) -> io::Result<()> {
+    streams::write_all(
+        rt,
+        Stream::Error,
         b"usage: hukolearu ask [--limit K] [--budget N] [--proof] FILE\n       hukolearu check [--limit K] FILE PROOF\n       hukolearu draw [--limit K] FILE PROOF\n       hukolearu words FILE\n       hukolearu text FILE\n       hukolearu slim FILE\n       hukolearu season [--limit K] [--budget N] FILE QUESTIONS\n       hukolearu desk RECORDS DAY HOUSE\nK is 0 to 32 (else 32), N is 0 to 4294967295 (else 10000000). `man hukolearu` tells more.\n",
-    );
+    )
 }
 
-pub fn is(i: usize, text: &[u8]) -> bool {
-    let mut space = io::buffer();
-    let n = os::arg(i, &mut space);
+// An argument's bytes, put at the front of a space; how many they are. None where there is no such argument, or no room for it.
+pub fn argument(rt: &HostRuntime, i: usize, space: &mut [u8]) -> usize {
+    rt.arg(i, space).unwrap_or(0)
+}
+
+fn is_given(rt: &HostRuntime, i: usize) -> bool {
+    let mut nothing = [0u8; 0];
+    !matches!(rt.arg(i, &mut nothing), Err(FillError::NotPresent))
+}
+
+// How many arguments there are, the program's name among them.
+pub fn argument_count(rt: &HostRuntime) -> usize {
+    for i in 0..usize::MAX {
+        if !is_given(rt, i) {
+            return i;
+        }
+    }
+    usize::MAX
+}
+
+pub fn is(rt: &HostRuntime, i: usize, text: &[u8]) -> bool {
+    let mut space = [0u8; 4096];
+    let n = argument(rt, i, &mut space);
     piece::is(part::front_bytes(&space, n), 0, text)
 }
 
-pub fn number(i: usize) -> Number {
-    let mut space = io::buffer();
-    let n = os::arg(i, &mut space);
+pub fn number(rt: &HostRuntime, i: usize) -> Number {
+    let mut space = [0u8; 4096];
+    let n = argument(rt, i, &mut space);
     piece::decimal(part::front_bytes(&space, n), 0, b'\n')
 }
 
 // The argument after a name; 0 where the name is not among the arguments.
-fn following(name: &[u8]) -> usize {
-    let count = os::arg_count();
+fn following(rt: &HostRuntime, name: &[u8]) -> usize {
+    let count = argument_count(rt);
     let mut i = 2;
     while i < count {
-        if is(i, name) {
+        if is(rt, i, name) {
             return i + 1;
         }
         i += 1;
@@ -45,11 +70,11 @@ fn following(name: &[u8]) -> usize {
     0
 }
 
-fn value(at: usize, otherwise: u32) -> Number {
+fn value(rt: &HostRuntime, at: usize, otherwise: u32) -> Number {
     if at == 0 {
         return Number::Value(otherwise, 0);
     }
-    number(at)
+    number(rt, at)
 }
 
 fn refused() -> Options {
@@ -69,8 +94,8 @@ fn many(at: usize) -> usize {
     2
 }
 
-fn counted(limit: usize, budget: usize, proof: usize, files: usize) -> bool {
-    let mut left = os::arg_count();
+fn counted(rt: &HostRuntime, limit: usize, budget: usize, proof: usize, files: usize) -> bool {
+    let mut left = argument_count(rt);
     if left < 2 {
         return false;
     }
@@ -96,18 +121,18 @@ fn counted(limit: usize, budget: usize, proof: usize, files: usize) -> bool {
 }
 
 // The options of a command that is given so many files.
-pub fn asked(files: usize) -> Options {
-    let limit_at = following(b"--limit");
-    let budget_at = following(b"--budget");
-    let proof_at = following(b"--proof");
-    if !counted(limit_at, budget_at, proof_at, files) {
+pub fn asked(rt: &HostRuntime, files: usize) -> Options {
+    let limit_at = following(rt, b"--limit");
+    let budget_at = following(rt, b"--budget");
+    let proof_at = following(rt, b"--proof");
+    if !counted(rt, limit_at, budget_at, proof_at, files) {
         return refused();
     }
-    let limit_said = value(limit_at, 32);
+    let limit_said = value(rt, limit_at, 32);
     let Number::Value(limit, _) = limit_said else {
         return refused();
     };
-    let budget_said = value(budget_at, 10_000_000);
+    let budget_said = value(rt, budget_at, 10_000_000);
     let Number::Value(budget, _) = budget_said else {
         return refused();
     };
@@ -120,30 +145,30 @@ pub fn asked(files: usize) -> Options {
 }
 
 // The options of a command that is given a file and a proof.
-pub fn offered() -> Options {
-    if following(b"--budget") != 0 {
+pub fn offered(rt: &HostRuntime) -> Options {
+    if following(rt, b"--budget") != 0 {
         return refused();
     }
-    if following(b"--proof") != 0 {
+    if following(rt, b"--proof") != 0 {
         return refused();
     }
-    asked(2)
+    asked(rt, 2)
 }
 
 // The last argument, which names a file.
-pub fn last(space: &mut [u8]) -> usize {
-    let count = os::arg_count();
+pub fn last(rt: &HostRuntime, space: &mut [u8]) -> usize {
+    let count = argument_count(rt);
     if count == 0 {
         return 0;
     }
-    os::arg(count - 1, space)
+    argument(rt, count - 1, space)
 }
 
 // The argument before the last so many.
-pub fn from_last(back: usize, space: &mut [u8]) -> usize {
-    let count = os::arg_count();
+pub fn from_last(rt: &HostRuntime, back: usize, space: &mut [u8]) -> usize {
+    let count = argument_count(rt);
     if count <= back {
         return 0;
     }
-    os::arg(count - 1 - back, space)
+    argument(rt, count - 1 - back, space)
 }

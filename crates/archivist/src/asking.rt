@@ -2,12 +2,14 @@
 ghost use Rattle.std.specs.Prelude.{◌≡◌, length};
 
 use crate::arguments::Options;
-use crate::{arguments, files};
+use crate::streams::Stream;
+use crate::{arguments, files, streams};
 use assistant::result;
-use libc::{STDERR_FILENO, STDOUT_FILENO};
 use naming::{lookup, show};
 use requests::piece;
 use requests::piece::Number;
+use std::io;
+use std::io::IsTerminal;
 use text::part;
 use tptp::TextRead;
 use words::fields;
@@ -18,42 +20,43 @@ fn sheet() -> [u8; 1048576] {
     [0; 1048576]
 }
 
-pub fn write(fd: i32, page: &[u8], n: usize) {
-    io::write_all(fd, part::front_bytes(page, n));
+pub fn write(rt: &HostRuntime, to: Stream, page: &[u8], n: usize) -> io::Result<()> {
+    streams::write_all(rt, to, part::front_bytes(page, n))?;
     if page.len() < n {
-        io::write_all(fd, b" ...\n");
+        return streams::write_all(rt, to, b" ...\n");
     }
+    Ok(())
 }
 
 // `ask FILE`.
-pub fn ask(o: Options) {
+pub fn ask(rt: &HostRuntime, o: Options) -> io::Result<()> {
     if !o.good {
-        arguments::usage();
-        return;
+        return arguments::usage(rt);
     }
-    let mut space = io::buffer();
-    let n = arguments::last(&mut space);
+    let mut space = [0u8; 4096];
+    let n = arguments::last(rt, &mut space);
     let name = part::front_bytes(&space, n);
     let mut text = files::text_buffer();
-    let got = files::read(name, &mut text);
+    let got = files::read(rt, name, &mut text)?;
     if !got.good {
-        return;
+        return Ok(());
     }
     let asked = answering::Options {
         limit: o.limit,
         budget: o.budget,
         proof: o.proof,
     };
-    let watched = libc::isatty(STDERR_FILENO) == 1;
+    let watched = rt.stderr().is_terminal();
     let mut out = sheet();
     let m = answering::ask::ask(
+        rt,
         watched,
         asked,
         name,
         part::front_bytes(&text, got.bytes),
         &mut out,
     );
-    write(STDOUT_FILENO, &out, m);
+    write(rt, Stream::Output, &out, m)
 }
 
 // What the other commands share.
@@ -83,16 +86,22 @@ pub fn page() -> [u8; 262144]
 }
 
 // Says why a text is refused.
-pub fn refuse(fd: i32, name: &[u8], text: &[u8], read: TextRead) {
+pub fn refuse(
+    rt: &HostRuntime,
+    to: Stream,
+    name: &[u8],
+    text: &[u8],
+    read: TextRead,
+) -> io::Result<()> {
     let mut out = page();
     let n = answering::refuse::refusal(&mut out, 0, name, text, read);
-    write(fd, &out, n);
+    write(rt, to, &out, n)
 }
 
-pub fn status_line(name: &[u8], status: &[u8]) {
+pub fn status_line(rt: &HostRuntime, name: &[u8], status: &[u8]) -> io::Result<()> {
     let mut out = page();
     let n = result::szs(&mut out, 0, status, name);
-    write(STDOUT_FILENO, &out, n);
+    write(rt, Stream::Output, &out, n)
 }
 
 // The literals of the question.
@@ -148,14 +157,20 @@ fn after_line(listing: &[u8], end: usize) -> usize {
 }
 
 // A line of the listing, in the clause's own name; where the next line begins.
-fn behind_line(text: &[u8], index: &[u32], listing: &[u8], at: usize) -> usize {
+fn behind_line(
+    rt: &HostRuntime,
+    text: &[u8],
+    index: &[u32],
+    listing: &[u8],
+    at: usize,
+) -> io::Result<usize> {
     let first = piece::decimal(listing, at, b' ');
     let Number::Value(number, next) = first else {
-        return listing.len();
+        return Ok(listing.len());
     };
     let second = piece::decimal(listing, next, b' ');
     let Number::Value(copies, rest) = second else {
-        return listing.len();
+        return Ok(listing.len());
     };
     let mut out = page();
     let n = result::behind(
@@ -164,31 +179,45 @@ fn behind_line(text: &[u8], index: &[u32], listing: &[u8], at: usize) -> usize {
         lookup::name(text, part::rest(index, 8192), wide(number)),
         copies,
     );
-    write(STDOUT_FILENO, &out, n);
+    write(rt, Stream::Output, &out, n)?;
     let end = piece::end_of(listing, rest, b'\n');
-    after_line(listing, end)
+    Ok(after_line(listing, end))
 }
 
-fn behind_lines(text: &[u8], index: &[u32], listing: &[u8]) {
+fn behind_lines(rt: &HostRuntime, text: &[u8], index: &[u32], listing: &[u8]) -> io::Result<()> {
     let mut at = 0;
     let mut left: usize = 513;
     while left > 0 {
         if listing.len() <= at {
-            return;
+            return Ok(());
         }
-        at = behind_line(text, index, listing, at);
+        at = behind_line(rt, text, index, listing, at)?;
         left -= 1;
     }
+    Ok(())
 }
 
 // The clauses behind the answer by their own names, each with how often it was used.
-pub fn tell_behind(text: &[u8], index: &[u32], file: &[u32], bound: u32, steps: &[u32]) {
+pub fn tell_behind(
+    rt: &HostRuntime,
+    text: &[u8],
+    index: &[u32],
+    file: &[u32],
+    bound: u32,
+    steps: &[u32],
+) -> io::Result<()> {
     let mut listing = listing_buffer();
     let mut work = files::file_buffer();
     let listed = listing::call::listing(file, bound, steps, &mut listing, &mut work);
-    io::write_all(
-        STDOUT_FILENO,
+    streams::write_all(
+        rt,
+        Stream::Output,
         b"Clauses behind it, and how often each was used:\n",
-    );
-    behind_lines(text, index, part::front_bytes(&listing, wide(listed.bytes)));
+    )?;
+    behind_lines(
+        rt,
+        text,
+        index,
+        part::front_bytes(&listing, wide(listed.bytes)),
+    )
 }

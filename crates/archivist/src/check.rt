@@ -2,9 +2,10 @@
 ghost use Rattle.std.specs.Prelude.{◌≡◌, length};
 
 use crate::arguments::Options;
-use crate::{arguments, asking, draw, files};
+use crate::streams::Stream;
+use crate::{arguments, asking, draw, files, streams};
 use hukolearu::{Outcome, calls, status};
-use libc::{STDERR_FILENO, STDOUT_FILENO};
+use std::io;
 use text::{part, put};
 use verdicts::{unreadable, verdict};
 use words::fields::wide;
@@ -19,36 +20,47 @@ fn steps_buffer() -> [u32; 32769]
 }
 
 // A drawing is the only thing on standard output: what is said goes elsewhere.
-fn said_to(drawn: bool) -> i32 {
+fn said_to(drawn: bool) -> Stream {
     if drawn {
-        return STDERR_FILENO;
+        return Stream::Error;
     }
-    STDOUT_FILENO
+    Stream::Output
 }
 
 // The line for other tools, where there is no drawing.
-fn ended(drawn: bool, name: &[u8], status: &[u8]) {
+fn ended(rt: &HostRuntime, drawn: bool, name: &[u8], status: &[u8]) -> io::Result<()> {
     if drawn {
-        return;
+        return Ok(());
     }
-    asking::status_line(name, status);
+    asking::status_line(rt, name, status)
 }
 
-fn refuse_proof(drawn: bool, name: &[u8], said: &[u8], reading: Reading) {
+fn refuse_proof(
+    rt: &HostRuntime,
+    drawn: bool,
+    name: &[u8],
+    said: &[u8],
+    reading: Reading,
+) -> io::Result<()> {
     let mut out = asking::page();
     let place = reading.place;
     let awaited = reading.awaited;
     let n = unreadable::wrong(name, said, place, awaited, &mut out, 0);
-    asking::write(said_to(drawn), &out, n);
+    asking::write(rt, said_to(drawn), &out, n)
 }
 
-fn refuse_long(drawn: bool, name: &[u8]) {
-    io::write_all(said_to(drawn), name);
-    io::write_all(said_to(drawn), b": the proof is longer than 65536 bytes\n");
+fn refuse_long(rt: &HostRuntime, drawn: bool, name: &[u8]) -> io::Result<()> {
+    streams::write_all(rt, said_to(drawn), name)?;
+    streams::write_all(
+        rt,
+        said_to(drawn),
+        b": the proof is longer than 65536 bytes\n",
+    )
 }
 
 // The answer, and the clauses behind it.
 fn tell_accepted(
+    rt: &HostRuntime,
     name: &[u8],
     text: &[u8],
     index: &[u32],
@@ -57,14 +69,14 @@ fn tell_accepted(
     o: Outcome,
     steps: &[u32],
     answer: &[u32],
-) {
+) -> io::Result<()> {
     let mut out = asking::page();
     let a = verdict::accepted(o.disjuncts, o.proof, &mut out, 0);
     let b = asking::show_answer(text, index, asking::atoms(file), answer, &mut out, a);
     let c = put::byte(&mut out, b, b'\n');
-    asking::write(STDOUT_FILENO, &out, c);
-    asking::tell_behind(text, index, file, limit, steps);
-    asking::status_line(name, b"Unsatisfiable");
+    asking::write(rt, Stream::Output, &out, c)?;
+    asking::tell_behind(rt, text, index, file, limit, steps)?;
+    asking::status_line(rt, name, b"Unsatisfiable")
 }
 
 // A length, as far as a word holds it.
@@ -75,29 +87,38 @@ fn told(n: usize) -> u32 {
     n as u32
 }
 
-fn tell_too_long(name: &[u8], text: &[u8], index: &[u32], file: &[u32], limit: u32, steps: &[u32]) {
+fn tell_too_long(
+    rt: &HostRuntime,
+    name: &[u8],
+    text: &[u8],
+    index: &[u32],
+    file: &[u32],
+    limit: u32,
+    steps: &[u32],
+) -> io::Result<()> {
     let mut out = asking::page();
     let n = verdict::too_long(told(steps.len()), &mut out, 0);
-    asking::write(STDOUT_FILENO, &out, n);
-    asking::tell_behind(text, index, file, limit, steps);
-    asking::status_line(name, b"Unsatisfiable");
+    asking::write(rt, Stream::Output, &out, n)?;
+    asking::tell_behind(rt, text, index, file, limit, steps)?;
+    asking::status_line(rt, name, b"Unsatisfiable")
 }
 
 // The first step that is wrong.
 fn tell_refused(
-    fd: i32,
+    rt: &HostRuntime,
+    to: Stream,
     text: &[u8],
     index: &[u32],
     file: &[u32],
     limit: u32,
     o: Outcome,
     steps: &[u32],
-) {
+) -> io::Result<()> {
     if index.len() != 16896 {
-        return;
+        return Ok(());
     }
     if o.place == 4294967295 {
-        return;
+        return Ok(());
     }
     let mut bound = draw::bound_buffer();
     let taken = part::front(steps, wide(o.place));
@@ -106,11 +127,12 @@ fn tell_refused(
     let n = verdict::refused(
         text, index, file, &bound, steps, limit, o.status, o.place, &mut out, 0,
     );
-    asking::write(fd, &out, n);
+    asking::write(rt, to, &out, n)
 }
 
 // What the checker says of the steps.
 fn judge(
+    rt: &HostRuntime,
     drawn: bool,
     name: &[u8],
     text: &[u8],
@@ -118,33 +140,30 @@ fn judge(
     file: &[u32],
     limit: u32,
     steps: &[u32],
-) {
+) -> io::Result<()> {
     let mut answer = asking::answer_buffer();
     let mut work = files::file_buffer();
     let o = calls::check_proof(file, limit, steps, &mut answer, &mut work);
     if o.status == status::DONE {
         if drawn {
-            draw::write(text, index, file, limit, steps);
-            return;
+            return draw::write(rt, text, index, file, limit, steps);
         }
         let own = part::front(&answer, wide(o.answer));
-        tell_accepted(name, text, index, file, limit, o, steps, own);
-        return;
+        return tell_accepted(rt, name, text, index, file, limit, o, steps, own);
     }
     if o.status == status::ANSWER_TOO_LONG {
         if drawn {
-            draw::write(text, index, file, limit, steps);
-            return;
+            return draw::write(rt, text, index, file, limit, steps);
         }
-        tell_too_long(name, text, index, file, limit, steps);
-        return;
+        return tell_too_long(rt, name, text, index, file, limit, steps);
     }
-    tell_refused(said_to(drawn), text, index, file, limit, o, steps);
-    ended(drawn, name, b"Unknown");
+    tell_refused(rt, said_to(drawn), text, index, file, limit, o, steps)?;
+    ended(rt, drawn, name, b"Unknown")
 }
 
 // The proof read against the names of the text.
 fn read_proof(
+    rt: &HostRuntime,
     drawn: bool,
     limit: u32,
     name: &[u8],
@@ -152,18 +171,18 @@ fn read_proof(
     file: &[u32],
     proof: &[u8],
     said: &[u8],
-) {
+) -> io::Result<()> {
     let mut index = asking::index_buffer();
     naming::index::index(text, &mut index);
     let mut steps = steps_buffer();
     let reading = read::proof(text, part::rest(&index, 8192), said, &mut steps);
     if !reading.whole {
-        refuse_proof(drawn, proof, said, reading);
-        ended(drawn, name, b"InputError");
-        return;
+        refuse_proof(rt, drawn, proof, said, reading)?;
+        return ended(rt, drawn, name, b"InputError");
     }
     let count = reading.steps;
     judge(
+        rt,
         drawn,
         name,
         text,
@@ -171,24 +190,31 @@ fn read_proof(
         file,
         limit,
         part::front(&steps, count),
-    );
+    )
 }
 
-fn read_text(drawn: bool, limit: u32, name: &[u8], text: &[u8], proof: &[u8], said: &[u8]) {
+fn read_text(
+    rt: &HostRuntime,
+    drawn: bool,
+    limit: u32,
+    name: &[u8],
+    text: &[u8],
+    proof: &[u8],
+    said: &[u8],
+) -> io::Result<()> {
     let mut file = files::file_buffer();
     let read = tptp::call::read(text, &mut file);
     if read.status != 0 {
-        asking::refuse(said_to(drawn), name, text, read);
-        ended(drawn, name, b"InputError");
-        return;
+        asking::refuse(rt, said_to(drawn), name, text, read)?;
+        return ended(rt, drawn, name, b"InputError");
     }
     if 65536 < said.len() {
-        refuse_long(drawn, proof);
-        ended(drawn, name, b"InputError");
-        return;
+        refuse_long(rt, drawn, proof)?;
+        return ended(rt, drawn, name, b"InputError");
     }
     let words = wide(read.words);
     read_proof(
+        rt,
         drawn,
         limit,
         name,
@@ -196,44 +222,51 @@ fn read_text(drawn: bool, limit: u32, name: &[u8], text: &[u8], proof: &[u8], sa
         part::front(&file, words),
         proof,
         said,
-    );
+    )
 }
 
-fn read_files(drawn: bool, limit: u32, name: &[u8], proof: &[u8]) {
+fn read_files(
+    rt: &HostRuntime,
+    drawn: bool,
+    limit: u32,
+    name: &[u8],
+    proof: &[u8],
+) -> io::Result<()> {
     let mut text = files::text_buffer();
-    let got = files::read(name, &mut text);
+    let got = files::read(rt, name, &mut text)?;
     if !got.good {
-        return;
+        return Ok(());
     }
     let mut said = files::text_buffer();
-    let offered = files::read(proof, &mut said);
+    let offered = files::read(rt, proof, &mut said)?;
     if !offered.good {
-        return;
+        return Ok(());
     }
     read_text(
+        rt,
         drawn,
         limit,
         name,
         part::front_bytes(&text, got.bytes),
         proof,
         part::front_bytes(&said, offered.bytes),
-    );
+    )
 }
 
 // `check FILE PROOF`, or `draw FILE PROOF`.
-pub fn check(drawn: bool, o: Options) {
+pub fn check(rt: &HostRuntime, drawn: bool, o: Options) -> io::Result<()> {
     if !o.good {
-        arguments::usage();
-        return;
+        return arguments::usage(rt);
     }
-    let mut space = io::buffer();
-    let n = arguments::from_last(1, &mut space);
-    let mut other = io::buffer();
-    let m = arguments::last(&mut other);
+    let mut space = [0u8; 4096];
+    let n = arguments::from_last(rt, 1, &mut space);
+    let mut other = [0u8; 4096];
+    let m = arguments::last(rt, &mut other);
     read_files(
+        rt,
         drawn,
         o.limit,
         part::front_bytes(&space, n),
         part::front_bytes(&other, m),
-    );
+    )
 }

@@ -2,43 +2,42 @@
 ghost use Rattle.std.specs.Prelude.{◌≡◌, length};
 
 use crate::arguments::Options;
-use crate::{arguments, asking, files};
+use crate::streams::Stream;
+use crate::{arguments, asking, files, streams};
 use assistant::convert;
-use libc::{STDERR_FILENO, STDOUT_FILENO};
+use std::io;
 use text::{part, put};
 use words::fields::wide;
 
-fn write_words(file: &[u32]) {
+fn write_words(rt: &HostRuntime, file: &[u32]) -> io::Result<()> {
     let mut out = files::text_buffer();
     let n = convert::words(&mut out, 0, file);
-    io::write_all(STDOUT_FILENO, part::front_bytes(&out, n));
+    streams::write_all(rt, Stream::Output, part::front_bytes(&out, n))
 }
 
-fn words_of(name: &[u8], text: &[u8]) {
+fn words_of(rt: &HostRuntime, name: &[u8], text: &[u8]) -> io::Result<()> {
     let mut file = files::file_buffer();
     let read = tptp::call::read(text, &mut file);
     if read.status != 0 {
-        asking::refuse(STDERR_FILENO, name, text, read);
-        return;
+        return asking::refuse(rt, Stream::Error, name, text, read);
     }
-    write_words(part::front(&file, wide(read.words)));
+    write_words(rt, part::front(&file, wide(read.words)))
 }
 
 // `words FILE`: clause text into a question file, its words lowest byte first.
-pub fn words(o: Options) {
+pub fn words(rt: &HostRuntime, o: Options) -> io::Result<()> {
     if !o.good {
-        arguments::usage();
-        return;
+        return arguments::usage(rt);
     }
-    let mut space = io::buffer();
-    let n = arguments::last(&mut space);
+    let mut space = [0u8; 4096];
+    let n = arguments::last(rt, &mut space);
     let name = part::front_bytes(&space, n);
     let mut text = files::text_buffer();
-    let got = files::read(name, &mut text);
+    let got = files::read(rt, name, &mut text)?;
     if !got.good {
-        return;
+        return Ok(());
     }
-    words_of(name, part::front_bytes(&text, got.bytes));
+    words_of(rt, name, part::front_bytes(&text, got.bytes))
 }
 
 // Room for the text of a table.
@@ -48,50 +47,51 @@ fn table_buffer() -> [u8; 262144]
     [0; 262144]
 }
 
-fn complain(name: &[u8], status: u32, place: u32) {
+fn complain(rt: &HostRuntime, name: &[u8], status: u32, place: u32) -> io::Result<()> {
     let mut out = [0u8; 4200];
     let a = put::bytes(&mut out, 0, name);
     let b = put::field(&mut out, a, b": no question file: status ", status);
     let c = put::field(&mut out, b, b", place ", place);
     let d = put::byte(&mut out, c, b'\n');
-    io::write_all(STDERR_FILENO, part::front_bytes(&out, d));
+    streams::write_all(rt, Stream::Error, part::front_bytes(&out, d))
 }
 
-fn write_text(name: &[u8], file: &[u32]) {
+fn write_text(rt: &HostRuntime, name: &[u8], file: &[u32]) -> io::Result<()> {
     let mut out = table_buffer();
     let written = clauselines::call::write(file, &mut out);
     if written.status != 0 {
-        complain(name, written.status, written.place);
-        return;
+        return complain(rt, name, written.status, written.place);
     }
-    io::write_all(STDOUT_FILENO, part::front_bytes(&out, wide(written.bytes)));
+    streams::write_all(
+        rt,
+        Stream::Output,
+        part::front_bytes(&out, wide(written.bytes)),
+    )
 }
 
-fn text_of(name: &[u8], bytes: &[u8]) {
+fn text_of(rt: &HostRuntime, name: &[u8], bytes: &[u8]) -> io::Result<()> {
     if bytes.len() % 4 != 0 {
-        complain(name, 4, 0);
-        return;
+        return complain(rt, name, 4, 0);
     }
     let mut file = files::file_buffer();
     let n = words::bytes::gather(bytes, &mut file);
-    write_text(name, part::front(&file, n));
+    write_text(rt, name, part::front(&file, n))
 }
 
 // `text FILE`: a question file into clause text.
-pub fn text(o: Options) {
+pub fn text(rt: &HostRuntime, o: Options) -> io::Result<()> {
     if !o.good {
-        arguments::usage();
-        return;
+        return arguments::usage(rt);
     }
-    let mut space = io::buffer();
-    let n = arguments::last(&mut space);
+    let mut space = [0u8; 4096];
+    let n = arguments::last(rt, &mut space);
     let name = part::front_bytes(&space, n);
     let mut bytes = files::text_buffer();
-    let got = files::read(name, &mut bytes);
+    let got = files::read(rt, name, &mut bytes)?;
     if !got.good {
-        return;
+        return Ok(());
     }
-    text_of(name, part::front_bytes(&bytes, got.bytes));
+    text_of(rt, name, part::front_bytes(&bytes, got.bytes))
 }
 
 fn numbers_buffer() -> [u32; 512]
@@ -100,12 +100,11 @@ fn numbers_buffer() -> [u32; 512]
     [0; 512]
 }
 
-fn slim_text(name: &[u8], text: &[u8]) {
+fn slim_text(rt: &HostRuntime, name: &[u8], text: &[u8]) -> io::Result<()> {
     let mut file = files::file_buffer();
     let read = tptp::call::read(text, &mut file);
     if read.status != 0 {
-        asking::refuse(STDERR_FILENO, name, text, read);
-        return;
+        return asking::refuse(rt, Stream::Error, name, text, read);
     }
     let mut slimmer = files::file_buffer();
     let mut numbers = numbers_buffer();
@@ -114,22 +113,21 @@ fn slim_text(name: &[u8], text: &[u8]) {
         &mut slimmer,
         &mut numbers,
     );
-    write_text(name, part::front(&slimmer, wide(s.words)));
+    write_text(rt, name, part::front(&slimmer, wide(s.words)))
 }
 
 // `slim FILE`: clause text without repeats and dead clauses, in the names of order 2.
-pub fn slim(o: Options) {
+pub fn slim(rt: &HostRuntime, o: Options) -> io::Result<()> {
     if !o.good {
-        arguments::usage();
-        return;
+        return arguments::usage(rt);
     }
-    let mut space = io::buffer();
-    let n = arguments::last(&mut space);
+    let mut space = [0u8; 4096];
+    let n = arguments::last(rt, &mut space);
     let name = part::front_bytes(&space, n);
     let mut text = files::text_buffer();
-    let got = files::read(name, &mut text);
+    let got = files::read(rt, name, &mut text)?;
     if !got.good {
-        return;
+        return Ok(());
     }
-    slim_text(name, part::front_bytes(&text, got.bytes));
+    slim_text(rt, name, part::front_bytes(&text, got.bytes))
 }

@@ -1,9 +1,10 @@
 // `draw FILE PROOF`: the closed tableau of an accepted proof as Graphviz text.
 ghost use Rattle.std.specs.Prelude.{◌≡◌, length};
 
+use crate::streams::Stream;
 use crate::{asking, files};
 use drawing::graph;
-use libc::STDOUT_FILENO;
+use std::io;
 
 // A slot for each literal of each copy.
 pub fn bound_buffer() -> [u32; 15246]
@@ -18,13 +19,20 @@ pub fn bind(file: &[u32], limit: u32, steps: &[u32], bound: &mut [u32]) {
     bound_literals::call::literals(file, limit, steps, bound, &mut work);
 }
 
-pub fn write(text: &[u8], index: &[u32], file: &[u32], limit: u32, steps: &[u32]) {
+pub fn write(
+    rt: &HostRuntime,
+    text: &[u8],
+    index: &[u32],
+    file: &[u32],
+    limit: u32,
+    steps: &[u32],
+) -> io::Result<()> {
     if index.len() != 16896 {
-        return;
+        return Ok(());
     }
     let mut bound = bound_buffer();
     bind(file, limit, steps, &mut bound);
     let mut out = asking::page();
     let n = graph::draw(text, index, file, &bound, steps, &mut out, 0);
-    asking::write(STDOUT_FILENO, &out, n);
+    asking::write(rt, Stream::Output, &out, n)
 }

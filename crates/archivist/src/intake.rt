@@ -1,12 +1,13 @@
 // `desk RECORDS DAY HOUSE`: what the records of a day and house say.
 ghost use Rattle.std.specs.Prelude.{◌≡◌, length};
 
+use crate::streams::Stream;
 use crate::{arguments, asking, files};
 use assistant::refusal;
-use libc::{STDERR_FILENO, STDOUT_FILENO};
 use reports::records::{Fault, Wanted};
 use reports::{records, said};
 use requests::piece::Number;
+use std::io;
 use text::part;
 
 // Enough for every question, whatever the records (docs/DESK.md).
@@ -19,7 +20,7 @@ fn record_buffer() -> [u32; 1503]
     [0; 1503]
 }
 
-fn tell(text: &[u8], day: u32, house: u32) {
+fn tell(rt: &HostRuntime, text: &[u8], day: u32, house: u32) -> io::Result<()> {
     let mut words = record_buffer();
     let n = records::gather(text, &mut words);
     let report = desk::ask_desk(part::front(&words, n), day, house, BUDGET, BUDGET, BUDGET);
@@ -27,67 +28,62 @@ fn tell(text: &[u8], day: u32, house: u32) {
     let mut out = asking::page();
     let m = said::report(&mut out, 0, day, house, report);
     if v.status == 0 {
-        asking::write(STDOUT_FILENO, &out, m);
-        return;
+        return asking::write(rt, Stream::Output, &out, m);
     }
-    asking::write(STDERR_FILENO, &out, m);
+    asking::write(rt, Stream::Error, &out, m)
 }
 
-fn complain(name: &[u8], text: &[u8], f: Fault) {
+fn complain(rt: &HostRuntime, name: &[u8], text: &[u8], f: Fault) -> io::Result<()> {
     let mut out = asking::page();
     let n = said::wrong(&mut out, 0, name, text, f);
-    asking::write(STDERR_FILENO, &out, n);
+    asking::write(rt, Stream::Error, &out, n)
 }
 
-fn long(name: &[u8], text: &[u8]) {
+fn long(rt: &HostRuntime, name: &[u8], text: &[u8]) -> io::Result<()> {
     let mut out = asking::page();
     let n = refusal::wrong(&mut out, 0, name, text, 0);
-    asking::write(STDERR_FILENO, &out, n);
+    asking::write(rt, Stream::Error, &out, n)
 }
 
-fn answer(name: &[u8], text: &[u8], day: u32, house: u32) {
+fn answer(rt: &HostRuntime, name: &[u8], text: &[u8], day: u32, house: u32) -> io::Result<()> {
     if 65536 < text.len() {
-        long(name, text);
-        return;
+        return long(rt, name, text);
     }
     let f = records::first_fault(text);
     let wanted = f.wanted;
     match wanted {
-        Wanted::Nothing => tell(text, day, house),
-        Wanted::Day => complain(name, text, f),
-        Wanted::House => complain(name, text, f),
-        Wanted::Slot => complain(name, text, f),
-        Wanted::LineEnd => complain(name, text, f),
+        Wanted::Nothing => tell(rt, text, day, house),
+        Wanted::Day => complain(rt, name, text, f),
+        Wanted::House => complain(rt, name, text, f),
+        Wanted::Slot => complain(rt, name, text, f),
+        Wanted::LineEnd => complain(rt, name, text, f),
     }
 }
 
-fn with_records(day: u32, house: u32) {
-    let mut space = io::buffer();
-    let n = os::arg(2, &mut space);
+fn with_records(rt: &HostRuntime, day: u32, house: u32) -> io::Result<()> {
+    let mut space = [0u8; 4096];
+    let n = arguments::argument(rt, 2, &mut space);
     let name = part::front_bytes(&space, n);
     let mut text = files::text_buffer();
-    let got = files::read(name, &mut text);
+    let got = files::read(rt, name, &mut text)?;
     if !got.good {
-        return;
+        return Ok(());
     }
-    answer(name, part::front_bytes(&text, got.bytes), day, house);
+    answer(rt, name, part::front_bytes(&text, got.bytes), day, house)
 }
 
 // `desk RECORDS DAY HOUSE`.
-pub fn desk() {
-    if os::arg_count() != 5 {
-        arguments::usage();
-        return;
+pub fn desk(rt: &HostRuntime) -> io::Result<()> {
+    if arguments::argument_count(rt) != 5 {
+        return arguments::usage(rt);
     }
-    let first = arguments::number(3);
+    let first = arguments::number(rt, 3);
     let Number::Value(day, _) = first else {
-        arguments::usage();
-        return;
+        return arguments::usage(rt);
     };
-    let second = arguments::number(4);
+    let second = arguments::number(rt, 4);
     let Number::Value(house, _) = second else {
-        arguments::usage();
-        return;
+        return arguments::usage(rt);
     };
-    with_records(day, house);
+    with_records(rt, day, house)
 }

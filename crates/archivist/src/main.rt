@@ -9,39 +9,35 @@ mod draw;
 mod files;
 mod intake;
 mod reporting;
+mod streams;
 
-fn main() {
-    if arguments::is(1, b"ask") {
-        asking::ask(arguments::asked(1));
-        return;
+use std::io;
+
+fn main(rt: HostRuntime) -> io::Result<()> {
+    let rt = &rt;
+    if arguments::is(rt, 1, b"ask") {
+        return asking::ask(rt, arguments::asked(rt, 1));
     }
-    if arguments::is(1, b"check") {
-        check::check(false, arguments::offered());
-        return;
+    if arguments::is(rt, 1, b"check") {
+        return check::check(rt, false, arguments::offered(rt));
     }
-    if arguments::is(1, b"draw") {
-        check::check(true, arguments::offered());
-        return;
+    if arguments::is(rt, 1, b"draw") {
+        return check::check(rt, true, arguments::offered(rt));
     }
-    if arguments::is(1, b"words") {
-        converting::words(arguments::asked(1));
-        return;
+    if arguments::is(rt, 1, b"words") {
+        return converting::words(rt, arguments::asked(rt, 1));
     }
-    if arguments::is(1, b"text") {
-        converting::text(arguments::asked(1));
-        return;
+    if arguments::is(rt, 1, b"text") {
+        return converting::text(rt, arguments::asked(rt, 1));
     }
-    if arguments::is(1, b"slim") {
-        converting::slim(arguments::asked(1));
-        return;
+    if arguments::is(rt, 1, b"slim") {
+        return converting::slim(rt, arguments::asked(rt, 1));
     }
-    if arguments::is(1, b"season") {
-        reporting::season(arguments::asked(2));
-        return;
+    if arguments::is(rt, 1, b"season") {
+        return reporting::season(rt, arguments::asked(rt, 2));
     }
-    if arguments::is(1, b"desk") {
-        intake::desk();
-        return;
+    if arguments::is(rt, 1, b"desk") {
+        return intake::desk(rt);
     }
-    arguments::usage();
+    arguments::usage(rt)
 }

@@ -2,14 +2,15 @@
 ghost use Rattle.std.specs.Prelude.{◌≡◌, length};
 
 use crate::arguments::Options;
+use crate::streams::Stream;
 use crate::{arguments, asking, files};
 use assistant::{place, refusal};
 use clausetext::judge::{Verdict, judge_text};
 use clausetext::stuck;
-use libc::{STDERR_FILENO, STDOUT_FILENO};
 use naming::lookup;
 use reports::{clauses, counts};
 use season::Report;
+use std::io;
 use text::{part, put};
 use tptp::TextRead;
 use words::fields::wide;
@@ -72,22 +73,28 @@ fn label(out: &mut [u8], name: &[u8], text: &[u8], at: usize) -> usize {
 }
 
 // A clause that is no clause: where, and what was expected.
-fn tell_wrong(name: &[u8], text: &[u8], from: usize, place: usize) -> Report {
+fn tell_wrong(
+    rt: &HostRuntime,
+    name: &[u8],
+    text: &[u8],
+    from: usize,
+    place: usize,
+) -> io::Result<Report> {
     let mut out = asking::page();
     let n = refusal::wrong_in(&mut out, 0, name, text, from, place);
-    asking::write(STDOUT_FILENO, &out, n);
-    let mut space = io::buffer();
+    asking::write(rt, Stream::Output, &out, n)?;
+    let mut space = [0u8; 4096];
     let m = label(&mut space, name, text, place);
-    asking::status_line(part::front_bytes(&space, m), b"InputError");
-    refused()
+    asking::status_line(rt, part::front_bytes(&space, m), b"InputError")?;
+    Ok(refused())
 }
 
-fn tell_no_question(label: &[u8]) -> Report {
+fn tell_no_question(rt: &HostRuntime, label: &[u8]) -> io::Result<Report> {
     let mut out = asking::page();
     let n = counts::no_question(&mut out, 0, label);
-    asking::write(STDOUT_FILENO, &out, n);
-    asking::status_line(label, b"InputError");
-    refused()
+    asking::write(rt, Stream::Output, &out, n)?;
+    asking::status_line(rt, label, b"InputError")?;
+    Ok(refused())
 }
 
 fn narrow(n: usize) -> u32 {
@@ -106,44 +113,58 @@ fn put_question(file: &[u32], limit: u32, budget: u32) -> Report {
     counts::alone(least.outcome)
 }
 
-fn tell(label: &[u8], text: &[u8], r: Report) {
+fn tell(rt: &HostRuntime, label: &[u8], text: &[u8], r: Report) -> io::Result<()> {
     let at = stuck::question_name(text, 1);
     if 65536 < at {
-        return;
+        return Ok(());
     }
     let places = [at as u32];
     let name = lookup::name(text, &places, 0);
     let mut out = asking::page();
     let a = counts::question(&mut out, 0, label, name, r);
     let b = counts::szs(&mut out, a, name, r);
-    asking::write(STDOUT_FILENO, &out, b);
+    asking::write(rt, Stream::Output, &out, b)
 }
 
 // A table's text with one clause behind it.
-fn ask_joined(limit: u32, budget: u32, label: &[u8], text: &[u8]) -> Report {
+fn ask_joined(
+    rt: &HostRuntime,
+    limit: u32,
+    budget: u32,
+    label: &[u8],
+    text: &[u8],
+) -> io::Result<Report> {
     let mut file = files::file_buffer();
     let read = tptp::call::read(text, &mut file);
     if read.status != 0 {
-        asking::refuse(STDOUT_FILENO, label, text, read);
-        asking::status_line(label, b"InputError");
-        return refused();
+        asking::refuse(rt, Stream::Output, label, text, read)?;
+        asking::status_line(rt, label, b"InputError")?;
+        return Ok(refused());
     }
     let r = put_question(part::front(&file, wide(read.words)), limit, budget);
-    tell(label, text, r);
-    r
+    tell(rt, label, text, r)?;
+    Ok(r)
 }
 
 // A clause of the questions, read as if it stood in the table's text.
-fn ask_clause(limit: u32, budget: u32, table: &[u8], label: &[u8], clause: &[u8]) -> Report {
+fn ask_clause(
+    rt: &HostRuntime,
+    limit: u32,
+    budget: u32,
+    table: &[u8],
+    label: &[u8],
+    clause: &[u8],
+) -> io::Result<Report> {
     let mut joined = joined_buffer();
     let a = put::bytes(&mut joined, 0, table);
     let b = put::byte(&mut joined, a, b'\n');
     let c = put::bytes(&mut joined, b, clause);
-    ask_joined(limit, budget, label, part::front_bytes(&joined, c))
+    ask_joined(rt, limit, budget, label, part::front_bytes(&joined, c))
 }
 
 // The clause of the questions that begins at a place and ends at another; blanks and comments after the last are none.
 fn ask_next(
+    rt: &HostRuntime,
     limit: u32,
     budget: u32,
     table: &[u8],
@@ -151,56 +172,78 @@ fn ask_next(
     questions: &[u8],
     from: usize,
     end: usize,
-) -> Report {
+) -> io::Result<Report> {
     let clause = part::rest_bytes(part::front_bytes(questions, end), from);
-    let mut space = io::buffer();
+    let mut space = [0u8; 4096];
     let verdict = judge_text(clause);
     match verdict {
-        Verdict::Wrong(place) => tell_wrong(name, questions, from, plus(from, place)),
+        Verdict::Wrong(place) => tell_wrong(rt, name, questions, from, plus(from, place)),
         Verdict::Fine(clauses, asked) => {
             if clauses == 0 {
-                return before(0);
+                return Ok(before(0));
             }
             let at = plus(from, stuck::question_name(clause, 1));
             let n = label(&mut space, name, questions, at);
             let place = part::front_bytes(&space, n);
             if asked == 0 {
-                return tell_no_question(place);
+                return tell_no_question(rt, place);
             }
-            ask_clause(limit, budget, table, place, clause)
+            ask_clause(rt, limit, budget, table, place, clause)
         }
     }
 }
 
-fn ask_all(limit: u32, budget: u32, table: &[u8], name: &[u8], questions: &[u8]) -> Report {
+fn ask_all(
+    rt: &HostRuntime,
+    limit: u32,
+    budget: u32,
+    table: &[u8],
+    name: &[u8],
+    questions: &[u8],
+) -> io::Result<Report> {
     let mut total = before(0);
     let mut at = 0;
     while at < questions.len() {
         let end = clauses::clause_end(questions, at);
-        let one = ask_next(limit, budget, table, name, questions, at, end);
+        let one = ask_next(rt, limit, budget, table, name, questions, at, end)?;
         total = counts::added(total, one);
         at = end;
     }
-    total
+    Ok(total)
 }
 
 // The table without its own question.
-fn ask_table(o: Options, name: &[u8], text: &[u8], list: &[u8], questions: &[u8]) {
+fn ask_table(
+    rt: &HostRuntime,
+    o: Options,
+    name: &[u8],
+    text: &[u8],
+    list: &[u8],
+    questions: &[u8],
+) -> io::Result<()> {
     let mut table = files::text_buffer();
     let n = clauses::stated(text, &mut table);
     let total = ask_all(
+        rt,
         o.limit,
         o.budget,
         part::front_bytes(&table, n),
         list,
         questions,
-    );
+    )?;
     let mut out = asking::page();
     let m = counts::report(&mut out, 0, name, o.limit, o.budget, total);
-    asking::write(STDOUT_FILENO, &out, m);
+    asking::write(rt, Stream::Output, &out, m)
 }
 
-fn put_season(o: Options, name: &[u8], text: &[u8], list: &[u8], questions: &[u8]) {
+fn put_season(
+    rt: &HostRuntime,
+    o: Options,
+    name: &[u8],
+    text: &[u8],
+    list: &[u8],
+    questions: &[u8],
+) -> io::Result<()> {
     let verdict = judge_text(text);
     match verdict {
         Verdict::Wrong(place) => {
@@ -209,14 +252,14 @@ fn put_season(o: Options, name: &[u8], text: &[u8], list: &[u8], questions: &[u8
                 place: narrow(place),
                 words: 0,
             };
-            asking::refuse(STDOUT_FILENO, name, text, read);
-            asking::status_line(name, b"InputError");
+            asking::refuse(rt, Stream::Output, name, text, read)?;
+            asking::status_line(rt, name, b"InputError")
         }
-        Verdict::Fine(_, _) => ask_table(o, name, text, list, questions),
+        Verdict::Fine(_, _) => ask_table(rt, o, name, text, list, questions),
     }
 }
 
-fn complain(name: &[u8]) {
+fn complain(rt: &HostRuntime, name: &[u8]) -> io::Result<()> {
     let mut out = asking::page();
     let n = place::both(
         &mut out,
@@ -224,44 +267,43 @@ fn complain(name: &[u8]) {
         name,
         b": the questions are longer than 262144 bytes\n",
     );
-    asking::write(STDERR_FILENO, &out, n);
+    asking::write(rt, Stream::Error, &out, n)
 }
 
-fn with_questions(o: Options, name: &[u8], text: &[u8]) {
-    let mut space = io::buffer();
-    let n = arguments::last(&mut space);
+fn with_questions(rt: &HostRuntime, o: Options, name: &[u8], text: &[u8]) -> io::Result<()> {
+    let mut space = [0u8; 4096];
+    let n = arguments::last(rt, &mut space);
     let list = part::front_bytes(&space, n);
     let mut questions = questions_buffer();
-    let got = files::read(list, &mut questions);
+    let got = files::read(rt, list, &mut questions)?;
     if !got.good {
-        return;
+        return Ok(());
     }
     if 262144 < got.bytes {
-        complain(list);
-        return;
+        return complain(rt, list);
     }
     put_season(
+        rt,
         o,
         name,
         text,
         list,
         part::front_bytes(&questions, got.bytes),
-    );
+    )
 }
 
 // `season FILE QUESTIONS`.
-pub fn season(o: Options) {
+pub fn season(rt: &HostRuntime, o: Options) -> io::Result<()> {
     if !o.good {
-        arguments::usage();
-        return;
+        return arguments::usage(rt);
     }
-    let mut space = io::buffer();
-    let n = arguments::from_last(1, &mut space);
+    let mut space = [0u8; 4096];
+    let n = arguments::from_last(rt, 1, &mut space);
     let name = part::front_bytes(&space, n);
     let mut text = files::text_buffer();
-    let got = files::read(name, &mut text);
+    let got = files::read(rt, name, &mut text)?;
     if !got.good {
-        return;
+        return Ok(());
     }
-    with_questions(o, name, part::front_bytes(&text, got.bytes));
+    with_questions(rt, o, name, part::front_bytes(&text, got.bytes))
 }

@@ -2,7 +2,7 @@
 #![tactic(auto)]
 
 use std::io;
-use std::io::{Print, Read};
+use std::io::Read;
 use text::part;
 
 // The most bytes of standard input that are read: more than the longest input that is not refused.

@@ -1,7 +1,7 @@
 // Gives each file that an argument names to document 01's program: the file's name, and what the program writes.
 #![tactic(auto)]
 
-use std::io::{Print, Read};
+use std::io::Read;
 use std::{env, fs, io};
 use text::part;
 

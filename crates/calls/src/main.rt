@@ -4,51 +4,51 @@
 
 ghost use Rattle.std.specs.Prelude.{◌≤◌, ◌<◌, length};
 
-use libc::{STDIN_FILENO, STDOUT_FILENO};
 use requests::piece;
 use search_verbs::{check, search};
+use std::io;
+use std::io::Read;
 use table_verbs::{tables, texts};
 use text::{part, put};
 
-fn answer_request(line: &[u8]) {
+fn answer_request(rt: &HostRuntime, line: &[u8]) -> io::Result<()> {
     let mut values = lent::value_buffer();
-    if search::answer_searches(line, &mut values) {
-        return;
+    if search::answer_searches(rt, line, &mut values)? {
+        return Ok(());
     }
-    if check::answer_checks(line, &mut values) {
-        return;
+    if check::answer_checks(rt, line, &mut values)? {
+        return Ok(());
     }
-    if tables::answer_tables(line, &mut values) {
-        return;
+    if tables::answer_tables(rt, line, &mut values)? {
+        return Ok(());
     }
-    if texts::answer_texts(line, &mut values) {
-        return;
+    if texts::answer_texts(rt, line, &mut values)? {
+        return Ok(());
     }
-    io::write_all(STDOUT_FILENO, b"error\n");
+    println!(rt; "error")
 }
 
 // Empty lines and lines that begin with `#` have no result; a line that fills the buffer is too long to read.
-fn answer_line(line: &[u8], full: bool) {
+fn answer_line(rt: &HostRuntime, line: &[u8], full: bool) -> io::Result<()> {
     if line.len() == 0 {
-        return;
+        return Ok(());
     }
     if line[0] == b'#' {
-        return;
+        return Ok(());
     }
     if full {
-        io::write_all(STDOUT_FILENO, b"error\n");
-        return;
+        return println!(rt; "error");
     }
-    answer_request(line);
+    answer_request(rt, line)
 }
 
 // Answers a line that has ended; how long the line is then.
-fn end_line(line: &[u8], used: usize, ended: bool) -> usize {
+fn end_line(rt: &HostRuntime, line: &[u8], used: usize, ended: bool) -> io::Result<usize> {
     if ended {
-        answer_line(part::front_bytes(line, used), line.len() <= used);
-        return 0;
+        answer_line(rt, part::front_bytes(line, used), line.len() <= used)?;
+        return Ok(0);
     }
-    used
+    Ok(used)
 }
 
 fn line_end(chunk: &[u8], at: usize) -> usize
@@ -59,59 +59,56 @@ fn line_end(chunk: &[u8], at: usize) -> usize
 }
 
 // Adds what was read to the line, and answers each line that ends in it.
-fn feed(chunk: &[u8], line: &mut [u8], from: usize) -> usize {
+fn feed(rt: &HostRuntime, chunk: &[u8], line: &mut [u8], from: usize) -> io::Result<usize> {
     let mut used = from;
     let mut at = 0;
     while at < chunk.len() {
         let end = line_end(chunk, at);
         let next = put::bytes(line, used, &chunk[at..end]);
-        used = end_line(line, next, end < chunk.len());
+        used = end_line(rt, line, next, end < chunk.len())?;
         at = end + 1;
     }
-    used
+    Ok(used)
 }
 
 // How long the line is so far, and whether there may be more to read.
-#[derive(Drop)]
+#[derive(Clone, Copy)]
 pub struct Fed {
     pub used: usize,
     pub more: bool,
 }
 
 // Reads once. The last line may lack its line feed.
-fn read_some(line: &mut [u8], used: usize) -> Fed {
-    let mut chunk = io::large_buffer();
-    let got = libc::read(STDIN_FILENO, &mut chunk);
-    if got <= 0 {
-        end_line(line, used, true);
-        return Fed {
+fn read_some(rt: &HostRuntime, line: &mut [u8], used: usize) -> io::Result<Fed> {
+    let mut chunk = [0u8; 65536];
+    let n = rt.stdin().read(&mut chunk)?;
+    if n == 0 {
+        end_line(rt, line, used, true)?;
+        return Ok(Fed {
             used: 0,
             more: false,
-        };
+        });
     }
-    let n = io::count(got, &chunk);
-    let next = feed(&chunk[..n], line, used);
-    Fed {
+    let next = feed(rt, &chunk[..n], line, used)?;
+    Ok(Fed {
         used: next,
         more: true,
-    }
+    })
 }
 
-fn serve(line: &mut [u8]) {
+fn serve(rt: &HostRuntime, line: &mut [u8]) -> io::Result<()> {
     let mut used = 0;
-    let mut turns = u64::MAX;
-    while turns > 0 {
-        let fed = read_some(line, used);
-        let more = fed.more;
-        if !more {
-            return;
+    for _ in 0..u64::MAX {
+        let fed = read_some(rt, line, used)?;
+        if !fed.more {
+            break;
         }
         used = fed.used;
-        turns -= 1;
     }
+    Ok(())
 }
 
-fn main() {
+fn main(rt: HostRuntime) -> io::Result<()> {
     let mut line = lent::line_buffer();
-    serve(&mut line);
+    serve(&rt, &mut line)
 }

@@ -1,7 +1,7 @@
 // Judges each file that an argument names: its name, status and place, the lengths of four clauses looked up, and a fingerprint of the second.
 #![tactic(auto)]
 
-use std::io::{Print, Read};
+use std::io::Read;
 use std::{env, fs, io};
 
 // The most bytes of a file that are read.

@@ -3,7 +3,7 @@
 
 ghost use Rattle.std.specs.Prelude.{◌≡◌, min, length, replicate};
 
-use libc::STDOUT_FILENO;
+use std::io;
 use text::part;
 
 // The most that a field of a row may be.
@@ -34,8 +34,8 @@ pub fn least(a: usize, b: usize) -> usize
     b
 }
 
-pub fn write_line(out: &[u8], n: usize) {
-    io::write_all(STDOUT_FILENO, part::front_bytes(out, n));
+pub fn write_line(rt: &impl Print, out: &[u8], n: usize) -> io::Result<()> {
+    rt.write_all(part::front_bytes(out, n))
 }
 
 // Room for the longest line, read or written.

@@ -2,10 +2,11 @@
 use crate::report;
 use hukolearu::{Outcome, calls};
 use requests::{piece, request};
+use std::io;
 use text::part;
 
 // Who has a proof checked, and by which rules.
-#[derive(Drop)]
+#[derive(Clone, Copy)]
 enum Asker {
     Collections,
     Education,
@@ -32,52 +33,56 @@ fn checked(
 }
 
 fn check(
+    rt: &impl Print,
     asker: Asker,
     file: &[u32],
     bound: u32,
     offered: &[u32],
     answer: &mut [u32],
     work: &mut [u32],
-) {
+) -> io::Result<()> {
     let o = checked(asker, file, bound, offered, answer, work);
-    report::report(o, 0, part::front(offered, 0), answer, work);
+    report::report(rt, o, 0, part::front(offered, 0), answer, work)
 }
 
 fn lend_check(
+    rt: &impl Print,
     asker: Asker,
     file: &[u32],
     bound: u32,
     offered: &[u32],
     answers: usize,
     works: usize,
-) {
+) -> io::Result<()> {
     let mut answer = lent::long_buffer();
     let mut work = lent::long_buffer();
     let a = lent::least(answers, 20000);
     let w = lent::least(works, 20000);
     check(
+        rt,
         asker,
         file,
         bound,
         offered,
         &mut answer[..a],
         &mut work[..w],
-    );
+    )
 }
 
-fn answer_check(asker: Asker, line: &[u8], values: &[usize]) {
+fn answer_check(rt: &impl Print, asker: Asker, line: &[u8], values: &[usize]) -> io::Result<()> {
     let mut space = lent::file_buffer();
     let n = piece::gather(line, request::place(values, 4), &mut space);
     let mut proof = lent::proof_buffer();
     let m = piece::gather(line, request::place(values, 3), &mut proof);
     lend_check(
+        rt,
         asker,
         part::front(&space, n),
         request::word(values, 0),
         part::front(&proof, m),
         request::place(values, 2),
         request::place(values, 1),
-    );
+    )
 }
 
 fn asks_check(line: &[u8], verb: &[u8], values: &mut [usize]) -> bool {
@@ -91,22 +96,22 @@ fn asks_check(line: &[u8], verb: &[u8], values: &mut [usize]) -> bool {
 }
 
 // The verbs that are asked as a check is.
-pub fn answer_checks(line: &[u8], values: &mut [usize]) -> bool {
+pub fn answer_checks(rt: &impl Print, line: &[u8], values: &mut [usize]) -> io::Result<bool> {
     if asks_check(line, b"check", values) {
-        answer_check(Asker::Collections, line, values);
-        return true;
+        answer_check(rt, Asker::Collections, line, values)?;
+        return Ok(true);
     }
     if asks_check(line, b"edu-check", values) {
-        answer_check(Asker::Education, line, values);
-        return true;
+        answer_check(rt, Asker::Education, line, values)?;
+        return Ok(true);
     }
     if asks_check(line, b"restart-check", values) {
-        answer_check(Asker::Restart, line, values);
-        return true;
+        answer_check(rt, Asker::Restart, line, values)?;
+        return Ok(true);
     }
     if asks_check(line, b"restart-edu-check", values) {
-        answer_check(Asker::RestartEducation, line, values);
-        return true;
+        answer_check(rt, Asker::RestartEducation, line, values)?;
+        return Ok(true);
     }
-    false
+    Ok(false)
 }

@@ -1,50 +1,57 @@
 // The verbs of a table.
 use requests::{piece, records, request};
 use results::{clause, counts, desk as said, slimmed};
+use std::io;
 use text::part;
 
-fn lookup(file: &[u32], number: usize) {
-    let mut out = io::buffer();
+fn lookup(rt: &impl Print, file: &[u32], number: usize) -> io::Result<()> {
+    let mut out = [0u8; 4096];
     let found = table::file::lookup(file, number);
     let n = clause::clause(&mut out, 0, table::file::place(file, number), found);
-    lent::write_line(&out, n);
+    lent::write_line(rt, &out, n)
 }
 
-fn answer_lookup(line: &[u8], values: &[usize]) {
+fn answer_lookup(rt: &impl Print, line: &[u8], values: &[usize]) -> io::Result<()> {
     let mut space = lent::file_buffer();
     let n = piece::gather(line, request::place(values, 1), &mut space);
-    lookup(part::front(&space, n), request::place(values, 0));
+    lookup(rt, part::front(&space, n), request::place(values, 0))
 }
 
-fn slim_file(file: &[u32], slimmer: &mut [u32], numbers: &mut [u32]) {
+fn slim_file(
+    rt: &impl Print,
+    file: &[u32],
+    slimmer: &mut [u32],
+    numbers: &mut [u32],
+) -> io::Result<()> {
     let s = slim::calls::slim(file, slimmer, numbers);
     let mut out = lent::line_buffer();
     let n = slimmed::slimmed(
         &mut out, 0, s.status, s.place, s.words, s.clauses, slimmer, numbers,
     );
-    lent::write_line(&out, n);
+    lent::write_line(rt, &out, n)
 }
 
 // Lends the words for the slimmer file and for the old numbers that are asked for.
-fn lend_slim(file: &[u32], words: usize, numbers: usize) {
+fn lend_slim(rt: &impl Print, file: &[u32], words: usize, numbers: usize) -> io::Result<()> {
     let mut slimmer = lent::long_buffer();
     let mut old = lent::long_buffer();
     let a = lent::least(words, 20000);
     let b = lent::least(numbers, 20000);
-    slim_file(file, &mut slimmer[..a], &mut old[..b]);
+    slim_file(rt, file, &mut slimmer[..a], &mut old[..b])
 }
 
-fn answer_slim(line: &[u8], values: &[usize]) {
+fn answer_slim(rt: &impl Print, line: &[u8], values: &[usize]) -> io::Result<()> {
     let mut space = lent::file_buffer();
     let n = piece::gather(line, request::place(values, 2), &mut space);
     lend_slim(
+        rt,
         part::front(&space, n),
         request::place(values, 0),
         request::place(values, 1),
-    );
+    )
 }
 
-fn answer_desk(line: &[u8], values: &[usize]) {
+fn answer_desk(rt: &impl Print, line: &[u8], values: &[usize]) -> io::Result<()> {
     let mut space = lent::record_buffer();
     let n = records::gather(line, request::place(values, 5), &mut space);
     let report = desk::ask_desk(
@@ -56,34 +63,36 @@ fn answer_desk(line: &[u8], values: &[usize]) {
         request::word(values, 2),
     );
     let v = desk::values(report);
-    let mut out = io::buffer();
+    let mut out = [0u8; 4096];
     let m = said::desk(&mut out, 0, v.status, v.matinee, v.evening, v.either);
-    lent::write_line(&out, m);
+    lent::write_line(rt, &out, m)
 }
 
 fn report_season(
+    rt: &impl Print,
     table: &[u32],
     entries: &[u32],
     list: &[u32],
     proof: &mut [u32],
     answer: &mut [u32],
     work: &mut [u32],
-) {
+) -> io::Result<()> {
     let r = season::season(table, entries, list, proof, answer, work);
     let mut out = lent::line_buffer();
     let n = counts::season(&mut out, 0, r, proof, answer, work);
-    lent::write_line(&out, n);
+    lent::write_line(rt, &out, n)
 }
 
 // Lends the proof, answer and work words that are asked for.
 fn lend_season(
+    rt: &impl Print,
     table: &[u32],
     entries: &[u32],
     list: &[u32],
     proofs: usize,
     answers: usize,
     works: usize,
-) {
+) -> io::Result<()> {
     let mut proof = lent::short_buffer();
     let mut answer = lent::long_buffer();
     let mut work = lent::long_buffer();
@@ -91,16 +100,17 @@ fn lend_season(
     let a = lent::least(answers, 20000);
     let w = lent::least(works, 20000);
     report_season(
+        rt,
         table,
         entries,
         list,
         &mut proof[..p],
         &mut answer[..a],
         &mut work[..w],
-    );
+    )
 }
 
-fn answer_season(line: &[u8], values: &[usize]) {
+fn answer_season(rt: &impl Print, line: &[u8], values: &[usize]) -> io::Result<()> {
     let mut space = lent::file_buffer();
     let n = piece::gather(line, request::place(values, 5), &mut space);
     let mut entries = lent::entry_buffer();
@@ -108,20 +118,21 @@ fn answer_season(line: &[u8], values: &[usize]) {
     let mut list = lent::file_buffer();
     let l = piece::gather(line, request::place(values, 4), &mut list);
     lend_season(
+        rt,
         part::front(&space, n),
         part::front(&entries, m),
         part::front(&list, l),
         request::place(values, 1),
         request::place(values, 2),
         request::place(values, 0),
-    );
+    )
 }
 
 // The verbs of a table.
-pub fn answer_tables(line: &[u8], values: &mut [usize]) -> bool {
+pub fn answer_tables(rt: &impl Print, line: &[u8], values: &mut [usize]) -> io::Result<bool> {
     if request::asks(line, b"lookup", b"nw", &[lent::ANY, lent::FILE], values) {
-        answer_lookup(line, values);
-        return true;
+        answer_lookup(rt, line, values)?;
+        return Ok(true);
     }
     if request::asks(
         line,
@@ -130,8 +141,8 @@ pub fn answer_tables(line: &[u8], values: &mut [usize]) -> bool {
         &[lent::FILE, lent::NUMBERS, lent::FILE],
         values,
     ) {
-        answer_slim(line, values);
-        return true;
+        answer_slim(rt, line, values)?;
+        return Ok(true);
     }
     if request::asks(
         line,
@@ -147,8 +158,8 @@ pub fn answer_tables(line: &[u8], values: &mut [usize]) -> bool {
         ],
         values,
     ) {
-        answer_desk(line, values);
-        return true;
+        answer_desk(rt, line, values)?;
+        return Ok(true);
     }
     if request::asks(
         line,
@@ -164,8 +175,8 @@ pub fn answer_tables(line: &[u8], values: &mut [usize]) -> bool {
         ],
         values,
     ) {
-        answer_season(line, values);
-        return true;
+        answer_season(rt, line, values)?;
+        return Ok(true);
     }
-    false
+    Ok(false)
 }

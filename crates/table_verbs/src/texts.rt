@@ -1,87 +1,103 @@
 // The verbs of text.
 use requests::{bytes, piece, request};
 use results::textual;
+use std::io;
 use text::part;
 
-fn read_text(text: &[u8], file: &mut [u32]) {
+fn read_text(rt: &impl Print, text: &[u8], file: &mut [u32]) -> io::Result<()> {
     let r = tptp::call::read(text, file);
     let mut out = lent::line_buffer();
     let n = textual::read_text(&mut out, 0, r.status, r.place, r.words, file);
-    lent::write_line(&out, n);
+    lent::write_line(rt, &out, n)
 }
 
 // Lends the words for the file that are asked for.
-fn lend_file(text: &[u8], words: usize) {
+fn lend_file(rt: &impl Print, text: &[u8], words: usize) -> io::Result<()> {
     let mut file = lent::long_buffer();
     let w = lent::least(words, 20000);
-    read_text(text, &mut file[..w]);
+    read_text(rt, text, &mut file[..w])
 }
 
-fn answer_text(line: &[u8], values: &[usize]) {
+fn answer_text(rt: &impl Print, line: &[u8], values: &[usize]) -> io::Result<()> {
     let mut space = lent::text_buffer();
     let n = bytes::gather(line, request::place(values, 1), &mut space);
-    lend_file(part::front_bytes(&space, n), request::place(values, 0));
+    lend_file(rt, part::front_bytes(&space, n), request::place(values, 0))
 }
 
-fn write_text(file: &[u32], text: &mut [u8]) {
+fn write_text(rt: &impl Print, file: &[u32], text: &mut [u8]) -> io::Result<()> {
     let w = clauselines::call::write(file, text);
     let mut out = lent::line_buffer();
     let n = textual::written_text(&mut out, 0, w.status, w.place, w.bytes, text);
-    lent::write_line(&out, n);
+    lent::write_line(rt, &out, n)
 }
 
 // Lends the bytes for the text that are asked for.
-fn lend_text(file: &[u32], bytes: usize) {
+fn lend_text(rt: &impl Print, file: &[u32], bytes: usize) -> io::Result<()> {
     let mut text = lent::filled_text();
     let b = lent::least(bytes, 131072);
-    write_text(file, &mut text[..b]);
+    write_text(rt, file, &mut text[..b])
 }
 
-fn answer_written(line: &[u8], values: &[usize]) {
+fn answer_written(rt: &impl Print, line: &[u8], values: &[usize]) -> io::Result<()> {
     let mut space = lent::file_buffer();
     let n = piece::gather(line, request::place(values, 1), &mut space);
-    lend_text(part::front(&space, n), request::place(values, 0));
+    lend_text(rt, part::front(&space, n), request::place(values, 0))
 }
 
-fn list_clauses(file: &[u32], bound: u32, offered: &[u32], listing: &mut [u8], work: &mut [u32]) {
+fn list_clauses(
+    rt: &impl Print,
+    file: &[u32],
+    bound: u32,
+    offered: &[u32],
+    listing: &mut [u8],
+    work: &mut [u32],
+) -> io::Result<()> {
     let w = listing::call::listing(file, bound, offered, listing, work);
     let mut out = lent::line_buffer();
     let n = textual::listed_text(&mut out, 0, w.status, w.place, w.bytes, listing, work);
-    lent::write_line(&out, n);
+    lent::write_line(rt, &out, n)
 }
 
 // Lends the bytes for the listing and the work words that are asked for.
-fn lend_listing(file: &[u32], bound: u32, offered: &[u32], bytes: usize, works: usize) {
+fn lend_listing(
+    rt: &impl Print,
+    file: &[u32],
+    bound: u32,
+    offered: &[u32],
+    bytes: usize,
+    works: usize,
+) -> io::Result<()> {
     let mut listing = lent::filled_text();
     let mut work = lent::long_buffer();
     let b = lent::least(bytes, 131072);
     let w = lent::least(works, 20000);
-    list_clauses(file, bound, offered, &mut listing[..b], &mut work[..w]);
+    list_clauses(rt, file, bound, offered, &mut listing[..b], &mut work[..w])
 }
 
-fn answer_listing(line: &[u8], values: &[usize]) {
+fn answer_listing(rt: &impl Print, line: &[u8], values: &[usize]) -> io::Result<()> {
     let mut space = lent::file_buffer();
     let n = piece::gather(line, request::place(values, 4), &mut space);
     let mut proof = lent::proof_buffer();
     let m = piece::gather(line, request::place(values, 3), &mut proof);
     lend_listing(
+        rt,
         part::front(&space, n),
         request::word(values, 0),
         part::front(&proof, m),
         request::place(values, 2),
         request::place(values, 1),
-    );
+    )
 }
 
 // The verbs of text.
-pub fn answer_texts(line: &[u8], values: &mut [usize]) -> bool {
+pub fn answer_texts(rt: &impl Print, line: &[u8], values: &mut [usize]) -> io::Result<bool> {
     if request::asks(line, b"tptp-in", b"nb", &[lent::FILE, lent::TEXT], values) {
-        answer_text(line, values);
-        return true;
+        answer_text(rt, line, values)?;
+        return Ok(true);
     }
     if request::asks(line, b"tptp-out", b"nw", &[lent::TEXT, lent::FILE], values) {
-        answer_written(line, values);
-        return true;
+        answer_written(rt, line, values)?;
+        return Ok(true);
     }
     if request::asks(
         line,
@@ -90,8 +106,8 @@ pub fn answer_texts(line: &[u8], values: &mut [usize]) -> bool {
         &[lent::ANY, lent::LONG, lent::TEXT, lent::OFFERED, lent::FILE],
         values,
     ) {
-        answer_listing(line, values);
-        return true;
+        answer_listing(rt, line, values)?;
+        return Ok(true);
     }
-    false
+    Ok(false)
 }

@@ -9,15 +9,15 @@ use Rattle.answering.proofs.Asked.{number_laws}
 ruleset all = (rules, number_laws)
 
 -- src/question.rt:13:15
-sub_wide : tie.Need-overflow-sub-wide
+sub_wide : tie.Need-overflow_sub-file
 sub_wide c = search all
 
 -- src/question.rt:13:10
-mul_wide : tie.Need-overflow-mul-wide
+mul_wide : tie.Need-offset_bounds-file-file
 mul_wide c = search rules
 
 -- src/question.rt:13:10
-shared-slice-read-wide : tie.Need-shared-slice-read-wide
+shared-slice-read-wide : tie.Need-bounds-file-file
 shared-slice-read-wide c = search all
 
 -- src/question.rt:13:5
@@ -25,7 +25,7 @@ wide-requires : tie.Need-wide-requires
 wide-requires c κs = search rules
 
 -- src/question.rt:13:5
-sub-result : tie.Need-overflow-sub-result
+sub-result : tie.Need-overflow_sub-result
 sub-result c = search all
 
 -- src/question.rt:9:1
