@@ -9,7 +9,7 @@ use Rattle.rules.specs.Comparison.{Reason, Holds, itself, in_arguments, HoldsAmo
 use Rattle.roundtrip.specs.Renumbered.{renamed_term, renamed_terms, renamed_literal}
 use Rattle.roundtrip.proofs.Limits.{arity_renamed}
 use Rattle.roundtrip.proofs.Permutations.{Permutation, kept_apart}
-use Rattle.roundtrip.proofs.Images.{turned, turned_back, turned_under, all_turned_under, PairsImage, one_more, forth, unders_forth, general_forth}
+use Rattle.roundtrip.proofs.Images.{turned, turned_back, turned_under, all_turned_under, PairsImage, no_pairs, one_more, forth, unders_forth, general_forth}
 
 module _ (f : Permutation ℕ) where
   abbrev turns : Terms Variable → Terms Variable
@@ -92,6 +92,7 @@ atoms_turned p f m n ss ts (inside e h) = inside (same-arity f ss ts e) (among_t
 module _ (p f : Permutation ℕ) (v : Permutation Variable) where
   pub newest_image : {ps qs : List Pair} {r : Reason} → PairsImage p f v ps qs → NewestFails ps r → NewestFails qs r
   unfolding closing atom under renamed_literal
+  newest_image {r = r} no_pairs h = elim h [ ]
   newest_image (one_more l k more) (newest_fails {σ = σ} {r = r} g h) =
       let compared : Fails (app (p.to l.predicate) (unders (forth p f v σ) (renamed_terms f.to v.to l.arguments))) (app (p.to k.predicate) (unders (forth p f v σ) (renamed_terms f.to v.to k.arguments))) r =
       rw (unders_forth p f v σ l.arguments, unders_forth p f v σ k.arguments)

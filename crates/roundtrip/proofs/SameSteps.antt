@@ -223,7 +223,7 @@ module _ (rules : Profile) (p f : Permutation ℕ) (t : Table) (bound : ℕ) (co
   made-back {x} m h as_it_stands = (x, as_it_stands, m)
   made-back {x} {y} m h (by_step {y = y'} {s = s} {ss = ss} e rest) =
       let k = both_some_back p f w (stepped S x s) y' (rw e at (step_image m s ss h)) in
-      let r = made-back k.2 (follows_on ss (does s k.1) h) rest in
+      let r = made-back {x = k.0} k.2 (follows_on ss (does s k.1) h) rest in
       (r.0, by_step k.1 r.1, r.2)
 
   pub start_image : get_or copies 0 t.question ≡ t.question → Image p f w (start t) (start u)

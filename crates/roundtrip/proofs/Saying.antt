@@ -17,7 +17,7 @@ use Rattle.tptp.specs.Said as Said
 use Rattle.tptp.specs.Said.{term_said, terms_said, literal_said, literals_said, clause_said, clauses_said, stated, asked, table_said}
 use Rattle.tptp.proofs.Trees.{each_front, each_rest}
 use Rattle.rules.proofs.Every.{All}
-use Rattle.roundtrip.specs.Renumbered.{first_uses, number_in, functions_of, functions_in, variables_of, variables_in, predicate_uses, function_uses, variable_uses, of_all, predicates, functions, variables, renamed_term, renamed_terms, renamed_literal, renumbered_clause, renumbered}
+use Rattle.roundtrip.specs.Renumbered.{number_in, functions_of, functions_in, variables_of, variables_in, predicate_uses, function_uses, variable_uses, of_all, predicates, functions, variables, renamed_term, renamed_terms, renamed_literal, renumbered_clause, renumbered}
 use Rattle.roundtrip.specs.Written.{predicate_name, function_name, variable_name, term_written, terms_written, literal_written, clause_written, axioms_written, table_written}
 use Rattle.roundtrip.proofs.FirstUses.{named_uses, number_named}
 use Rattle.roundtrip.proofs.Decimals.{apart}
