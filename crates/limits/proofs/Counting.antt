@@ -1,24 +1,21 @@
 -- Parts and names counted, with premises as the code has them.
-use mathlib.Core.Bool.{Bool, true, false}
-use mathlib.Core.List.{List, [], ◌∷◌, ◌++◌}
+use mathlib.Core.List.{List, [], ◌∷◌}
 use mathlib.Core.Path.{◌≡◌, refl, sym, ap, ◌∙◌}
-use Prim.Native.Nat.{ℕ, zero, suc, ◌+◌, ◌-◌, ◌*◌, ◌/◌, ◌%◌, ◌^◌, ◌≤◌, ◌<◌, max}
+use Prim.Native.Nat.{ℕ, zero, suc, ◌+◌, ◌*◌, ◌/◌, ◌%◌, ◌^◌, ◌≤◌, ◌<◌, max}
 use native.Mathlib.Numerals.{add-one}
 use native.Mathlib.Omega.{arith}
 use native.Mathlib.Decide.{dec_lt}
 use mir.Syntax.{w32}
 use mir.Val.{Fits}
-use borrow.Author.Tests.{lt-ltb, le-ltb}
+use borrow.Author.Tests.{lt-ltb}
 use lib.Dec.{ltb}
 use lib.ListN.{length, take, drop, get_or, set, length-set, drop_of_length-le}
 use lib.Seq.{drop-cons, take-suc, take-suc-set, take_all}
 use Rattle.words.specs.Fields.{kind_of}
 use Rattle.names.specs.Numbers.{Name, first_uses}
 use Rattle.names.specs.Noting.{names_at, uses_of, Numbering}
-use Rattle.tptp.specs.Sketch.{Item}
 use Rattle.tptp.specs.Shapes.{sort_kind}
 use Rattle.tptp.specs.Memory.{items_of}
-use Rattle.tptp.specs.Body.{item_names}
 use Rattle.tptp.proofs.Items.{names_are, names_of_kind, Kinds, uses_are}
 use Rattle.limits.specs.Over.{most_parts}
 use Rattle.limits.specs.Counting.{most_in, kind_words, more_than}

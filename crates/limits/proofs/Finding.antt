@@ -1,26 +1,26 @@
 -- The clause with which a limit is passed, with premises as the code has them.
 use mathlib.Core.Bool.{Bool, true, false, cond}
-use mathlib.Core.List.{List, [], ◌∷◌, ◌++◌, append_assoc, append-nil}
-use mathlib.Core.Path.{◌≡◌, refl, sym, ap, ap₂, subst, ◌∙◌}
-use Prim.Native.Nat.{ℕ, zero, suc, ◌+◌, ◌-◌, ◌/◌, ◌%◌, ◌≤◌, ◌<◌}
+use mathlib.Core.List.{List, [], ◌∷◌, ◌++◌}
+use mathlib.Core.Path.{◌≡◌, refl, sym, ap, ap₂, ◌∙◌}
+use Prim.Native.Nat.{ℕ, suc, ◌+◌, ◌-◌, ◌%◌, ◌≤◌, ◌<◌}
 use native.Mathlib.Omega.{arith}
 use mir.Syntax.{w64}
 use mir.Val.{Fits}
 use borrow.Author.Tests.{not-true, not-false}
 use lib.Dec.{eqb}
 use lib.ListN.{length, take, drop, get_or, length-append, length-take}
-use Rattle.clausetext.specs.Syntax.{Literal, Role, Axiom, Hypothesis, NegatedConjecture, Clause}
+use Rattle.clausetext.specs.Syntax.{Role, Axiom, Hypothesis, NegatedConjecture, Clause}
 use Rattle.clausetext.specs.Texts.{Says}
 use Rattle.clausetext.proofs.OneReading.{one_reading}
 use Rattle.names.specs.Numbers.{Name}
 use Rattle.naming.specs.Clauses.{same, asks, names_of}
-use Rattle.tptp.specs.Sketch.{clause_sort, clauses_items}
+use Rattle.tptp.specs.Sketch.{clause_sort}
 use Rattle.tptp.specs.Memory.{Gathered}
 use Rattle.tptp.specs.Body.{ahead, part, Held}
 use Rattle.limits.specs.declared.find.Limit.{Limit}
 use Rattle.limits.specs.declared.find.Limit.TheVariants.{Nothing, Literals, Arguments, Variables, Words, Clauses, Predicates, Functions, Total}
 use Rattle.limits.specs.declared.find.Passed.{Passed}
-use Rattle.limits.specs.Over.{own_limit, shared_limit, or_else, is_nothing, Over, or_next, limit_with, first_over}
+use Rattle.limits.specs.Over.{or_else, is_nothing, Over, or_next, limit_with, first_over}
 use Rattle.limits.specs.Counting.{OwnLimit, SharedLimit, LimitAt, passed_by, Finds}
 use Rattle.limits.proofs.Cutting.{some_items, Cut, cut_begin, Next, cut_over, next, upto, all_said, mark_parts, mark_sort, end_later, end_inside, end_falls, own_part, front_part, cut_next}
 

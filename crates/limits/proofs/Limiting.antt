@@ -1,8 +1,8 @@
 -- The limits of a clause alone and of clauses together, with premises as the code has them.
 use mathlib.Core.Bool.{Bool, true, false}
-use mathlib.Core.List.{List, [], ◌∷◌, ◌++◌}
-use mathlib.Core.Path.{◌≡◌, refl, sym, ap, ◌∙◌}
-use Prim.Native.Nat.{ℕ, ◌+◌, ◌/◌, ◌≤◌, ◌<◌}
+use mathlib.Core.List.{List}
+use mathlib.Core.Path.{◌≡◌, sym, ap, ◌∙◌}
+use Prim.Native.Nat.{ℕ, ◌/◌, ◌≤◌, ◌<◌}
 use native.Mathlib.Omega.{arith}
 use borrow.Author.Tests.{lt-ltb, le-ltb}
 use lib.Dec.{ltb}
@@ -13,7 +13,6 @@ use Rattle.tptp.specs.Said.{predicates, functions, variables}
 use Rattle.tptp.specs.Sketch.{Item, literals_items, clauses_items}
 use Rattle.tptp.specs.Memory.{items_of}
 use Rattle.tptp.proofs.Items.{names_of_kind, literals_variables, clauses_functions, clauses_predicates}
-use Rattle.limits.specs.declared.find.Limit.{Limit}
 use Rattle.limits.specs.declared.find.Limit.TheVariants.{Nothing, Literals, Arguments, Variables, Words, Clauses, Predicates, Functions, Total}
 use Rattle.limits.specs.Over.{most_parts, own_limit, shared_limit}
 use Rattle.limits.specs.Counting.{most_in, more_than, OwnLimit, SharedLimit}

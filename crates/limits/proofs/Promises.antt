@@ -1,29 +1,27 @@
 -- Where no limit is passed the table fits.
 use mathlib.Core.Bool.{Bool, true, false, cond}
 use mathlib.Core.List.{List, [], ◌∷◌, ◌++◌, append_assoc, append-nil}
-use mathlib.Core.Path.{◌≡◌, refl, sym, ap, ap₂, subst, ◌∙◌}
-use Prim.Native.Nat.{ℕ, zero, suc, ◌+◌, ◌≤◌, ◌<◌, max}
+use mathlib.Core.Path.{◌≡◌, refl, sym, ◌∙◌}
+use Prim.Native.Nat.{ℕ, zero, suc, ◌+◌, ◌≤◌, ◌<◌}
 use native.Mathlib.Omega.{arith}
 use borrow.Author.Tests.{ltb-false, le-leb}
-use lib.Dec.{ltb, leb}
-use lib.ListN.{length, length-append}
+use lib.Dec.{ltb}
+use lib.ListN.{length}
 use Rattle.clausetext.specs.Syntax.{Literal, Clause}
-use Rattle.clausetext.specs.Texts.{Says, questions}
 use Rattle.names.specs.Numbers.{Name, known_after, first_uses, number_in}
 use Rattle.table.specs.Encode.{clauses_words, file_words}
 use Rattle.table.specs.Limits.{Each, ClauseWithin}
 use Rattle.tptp.specs.Said.{predicate_uses, function_uses, of_all, predicates, functions, variables, clause_said, clauses_said, table_said}
 use Rattle.tptp.specs.Sketch.{Item, literals_items, clauses_items}
 use Rattle.tptp.specs.Shapes.{fits_by}
-use Rattle.tptp.specs.Body.{Fit, Below, bodies, ClauseFits}
-use Rattle.tptp.specs.Reads.{Fits}
+use Rattle.tptp.specs.Body.{Fit, bodies, ClauseFits}
 use Rattle.tptp.proofs.Ahead.{Before}
 use Rattle.tptp.proofs.Answers.{literals_sorts, said-within, file-count}
 use Rattle.tptp.proofs.Clauses.{each_there}
 use Rattle.tptp.proofs.Final.{each_mapped, used_below}
-use Rattle.tptp.proofs.Items.{names_of_kind, literals_functions, literals_predicates}
+use Rattle.tptp.proofs.Items.{literals_functions, literals_predicates}
 use Rattle.tptp.proofs.OneClause.{clause_within}
-use Rattle.tptp.proofs.Splits.{clauses_long, Split, split}
+use Rattle.tptp.proofs.Splits.{clauses_long, split}
 use Rattle.tptp.proofs.Stages.{under_each}
 use Rattle.tptp.proofs.Trees.{Good, each_front, each_rest}
 use Rattle.limits.specs.declared.find.Limit.{Limit}

@@ -1,16 +1,16 @@
 -- What is said of a text that passes a limit, with premises as the code has them.
 use mathlib.Core.Bool.{Bool, true, false}
-use mathlib.Core.List.{List, [], ◌∷◌, ◌++◌}
+use mathlib.Core.List.{List, [], ◌∷◌}
 use mathlib.Core.Path.{◌≡◌, refl, sym, ap, ◌∙◌}
-use Prim.Native.Nat.{ℕ, zero, suc, ◌+◌, ◌≤◌, ◌<◌}
+use Prim.Native.Nat.{ℕ, zero, suc, ◌≤◌, ◌<◌}
 use native.Mathlib.Omega.{arith}
-use denote.Ref.{Bor, MutBor}
+use denote.Ref.{Bor}
 use lib.ListN.{length, get_or, length-map}
 use Rattle.clausetext.specs.declared.judge.Verdict.{Verdict}
-use Rattle.clausetext.specs.declared.judge.Verdict.TheVariants.{Wrong, Fine}
+use Rattle.clausetext.specs.declared.judge.Verdict.TheVariants.{Wrong}
 use Rattle.clausetext.specs.Judging.{judged}
 use Rattle.clausetext.specs.Syntax.{Clause}
-use Rattle.clausetext.specs.Texts.{Says, Permitted, questions, Verdicts, fine}
+use Rattle.clausetext.specs.Texts.{Says, Permitted, Verdicts, fine}
 use Rattle.clausetext.proofs.Judgement.{only_verdict}
 use Rattle.clausetext.proofs.OneReading.{one_reading}
 use Rattle.names.specs.Numbers.{Name}
@@ -24,7 +24,7 @@ use Rattle.text.proofs.Putting.{begin, finish, then, same_size}
 use Rattle.limits.specs.declared.find.Limit.{Limit}
 use Rattle.limits.specs.declared.find.Limit.TheVariants.{Nothing, Literals, Arguments, Variables, Words, Clauses, Predicates, Functions, Total}
 use Rattle.limits.specs.declared.find.Passed.{Passed}
-use Rattle.limits.specs.Over.{is_nothing, Over, first_over}
+use Rattle.limits.specs.Over.{is_nothing, first_over}
 use Rattle.limits.specs.Counting.{Finds}
 use Rattle.limits.specs.Told.{limit_text, over_text, Told, NamePut, ClauseTold}
 
@@ -79,7 +79,7 @@ put_at (o ∷ out) [] n h k = absurd (omega arith)
 put_at (o ∷ out) (t ∷ text) zero h k = refl
 put_at (o ∷ out) (t ∷ text) (suc n) h k = put_at out text n (omega arith) (omega arith)
 
-module _ (text : MutBor (List ℕ)) {asked : Bool} {names names' : List ℕ} {n : ℕ} (w : NamesPut text.now asked names 0 names' n) where
+module _ (text : Bor (List ℕ)) {asked : Bool} {names names' : List ℕ} {n : ℕ} (w : NamesPut text.now asked names 0 names' n) where
   name-is : (cs : List Clause) → Says text.now cs → (number : ℕ) → number < length (names_of asked cs) → number < length names
       → name_of text.now names' number ≡ get_or (names_of asked cs) number []
   name-is cs y number h k =

@@ -1,11 +1,11 @@
 -- Limits judged by the items of a text in memory: machinery.
-use Rattle.std.specs.Prelude.{Bool, true, false, cond, List, [], ◌∷◌, ◌++◌, ◌≡◌, ℕ, ◌+◌, ◌*◌, ◌/◌, ◌%◌, ◌^◌, ◌<◌, max, ltb, length, take, drop, get_or}
+use Rattle.std.specs.Prelude.{Bool, true, false, List, [], ◌∷◌, ◌≡◌, ℕ, ◌+◌, ◌*◌, ◌/◌, ◌%◌, ◌^◌, ◌<◌, max, ltb, length, get_or}
 use Rattle.clausetext.specs.Syntax.{Literal, Clause}
 use Rattle.clausetext.specs.Texts.{Says}
-use Rattle.names.specs.Numbers.{Name, first_uses}
+use Rattle.names.specs.Numbers.{first_uses}
 use Rattle.names.specs.Noting.{names_at, uses_of}
 use Rattle.naming.specs.Clauses.{names_of}
-use Rattle.tptp.specs.Sketch.{Item, literals_items, clauses_items}
+use Rattle.tptp.specs.Sketch.{literals_items, clauses_items}
 use Rattle.tptp.specs.Shapes.{sort_kind}
 use Rattle.tptp.specs.Memory.{items_of}
 use Rattle.tptp.specs.Body.{part}

@@ -1,5 +1,5 @@
 -- What is said of a text that passes a limit: the file, the clause by its name, and the limit.
-use Rattle.std.specs.Prelude.{Bool, cond, List, [], ◌++◌, ◌≡◌, ℕ, ◌≤◌, ◌<◌, length, get_or}
+use Rattle.std.specs.Prelude.{Bool, cond, List, [], ◌++◌, ℕ, ◌≤◌, ◌<◌, length, get_or}
 use Rattle.clausetext.specs.Syntax.{Clause}
 use Rattle.clausetext.specs.declared.judge.Verdict.TheVariants.{Wrong}
 use Rattle.clausetext.specs.Texts.{Says, Verdicts}

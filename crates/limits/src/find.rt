@@ -10,7 +10,7 @@ use names::table::number;
 use tptp::last::seek;
 use tptp::sketch::gather;
 
-#[derive(Drop)]
+#[derive(Clone, Copy)]
 pub enum Limit {
     Nothing,
     Literals,
@@ -24,7 +24,7 @@ pub enum Limit {
 }
 
 // A limit that is passed, by the so-many-th question or by the so-many-th of the other clauses.
-#[derive(Drop)]
+#[derive(Clone, Copy)]
 pub struct Passed {
     pub limit: Limit,
     pub asked: bool,

@@ -1,15 +1,15 @@
 -- The tuples of a disjunct tell what the substitution has for the question's variables.
-use mathlib.Core.Bool.{Bool, true, false, cond, ◌&&◌}
+use mathlib.Core.Bool.{Bool, true, false, cond}
 use mathlib.Core.List.{List, [], ◌∷◌, ◌++◌, map, map-append, append_assoc, append-nil}
 use mathlib.Core.Path.{◌≡◌, refl, sym, ap, ap₂, ◌∙◌}
-use Prim.Native.Nat.{ℕ, zero, suc, ◌+◌, ◌≤◌, ◌<◌}
+use Prim.Native.Nat.{ℕ, suc, ◌+◌, ◌<◌}
 use native.Mathlib.Numerals.{add-one}
 use native.Mathlib.Omega.{arith}
 use borrow.Author.Tests.{ne_eqb}
 use lib.Dec.{eqb}
-use lib.ListN.{length, take, drop, length-append}
+use lib.ListN.{length, drop, length-append}
 use lib.Seq.{take-append_seam, drop-append_seam}
-use Rattle.words.specs.Fields.{kind_of, number_of, arity_of, variable_word, function_word, literal_word}
+use Rattle.words.specs.Fields.{kind_of, arity_of, variable_word, function_word, literal_word}
 use Rattle.words.proofs.Packed.{variable_kind, variable_number, function_kind, function_arity, literal_kind}
 use Rattle.table.specs.Syntax.{Term, var, app, Terms, nil, ◌then◌, arity, Literal, under, unders}
 use Rattle.table.specs.Encode.{term_words, terms_words, literal_words, literals_words}

@@ -1,6 +1,6 @@
 -- The examples of specs/Witnesses, computed.
 use mathlib.Core.Path.{refl}
-use Rattle.naming.specs.Shown.{joint_text, sign_text, closing, closed, opening, opened, shown_by, shown}
+use Rattle.naming.specs.Shown.{closing, closed, opening, opened, shown_by, shown}
 use Rattle.text.specs.Digits.{digits_of, significant}
 use Rattle.tuples.specs.Tuples.{span_of, width, is_next, values_in, after_in, tuples_in, terms_text, each_text, tuples_text, line_text, answers_text}
 use Rattle.tuples.specs.Witnesses.{TwoAlternatives, OneAnswer, TwoVariables, NoVariables}

@@ -1,10 +1,9 @@
 -- The line in two lists of names that show every term alike.
-use mathlib.Core.List.{List, [], ◌∷◌, ◌++◌}
-use mathlib.Core.Path.{◌≡◌, refl, ap, ap₂, ◌∙◌}
+use mathlib.Core.List.{List, [], ◌∷◌}
+use mathlib.Core.Path.{◌≡◌, refl}
 use Prim.Native.Nat.{ℕ, suc}
-use Rattle.text.specs.Quoted.{bytes}
 use Rattle.naming.specs.Shown.{Names, shown}
-use Rattle.tuples.specs.Tuples.{tuples_in, comma_text, terms_text, open_text, each_text, tuples_text, line_text, answers_text}
+use Rattle.tuples.specs.Tuples.{tuples_in, terms_text, each_text, tuples_text, line_text, answers_text}
 
 module _ (n m : Names) (same : (ws : List ℕ) → shown n 0 0 [] ws ≡ shown m 0 0 [] ws) where
   terms-same : (before : ℕ) (vs : List (List ℕ)) → terms_text n before vs ≡ terms_text m before vs

@@ -24,7 +24,7 @@ use Rattle.names.proofs.Same.{no_name}
 use Rattle.names.proofs.Notes.{number_within, noted_known, noted_new}
 use Rattle.naming.specs.Index.{IsNamed}
 use Rattle.naming.proofs.Lookups.{named_at, none_named, none_stands}
-use Rattle.tptp.specs.Said.{variable_uses, variables}
+use Rattle.tptp.specs.Said.{variable_uses}
 use Rattle.tptp.specs.Sketch.{Item}
 use Rattle.tptp.specs.Shapes.{sort_kind}
 use Rattle.tptp.specs.Memory.{items_of}
@@ -79,19 +79,19 @@ abbrev uses_in : Bor (List ℕ) → List ℕ → List ℕ → List Name
 uses_in text marks places = uses_of 0 (own_kinds marks) (names_at text.now places)
 
 module _ (text : Bor (List ℕ)) (marks places : List ℕ) (wanted : ℕ) where
-  nothing : (few_named (first_uses (uses_in text marks places)) wanted ≡ []) → (ptr : ℕ × ℕ) (name : ℕ) → Among text marks places wanted (record { ref_ptr = ptr; ghost_name = name; now = [] })
-  nothing e ptr name = record { at = length text.now; part = none_stands text (omega arith) ptr name; is = sym e }
+  nothing : (few_named (first_uses (uses_in text marks places)) wanted ≡ []) → (ptr : ℕ × ℕ) → Among text marks places wanted (record { ref_ptr = ptr; now = [] })
+  nothing e ptr = record { at = length text.now; part = none_stands text (omega arith) ptr; is = sym e }
 
-  pub among_late : 16 ≤ wanted → (ptr : ℕ × ℕ) (name : ℕ) → Among text marks places wanted (record { ref_ptr = ptr; ghost_name = name; now = [] })
-  among_late h ptr name = nothing (go (dec_lt 16 (length (first_uses (uses_in text marks places))))) ptr name
+  pub among_late : 16 ≤ wanted → (ptr : ℕ × ℕ) → Among text marks places wanted (record { ref_ptr = ptr; now = [] })
+  among_late h ptr = nothing (go (dec_lt 16 (length (first_uses (uses_in text marks places))))) ptr
     where
       go : Dec (16 < length (first_uses (uses_in text marks places))) → few_named (first_uses (uses_in text marks places)) wanted ≡ []
       go (yes l) = rw (lt-ltb 16 (length (first_uses (uses_in text marks places))) l)
       go (no l) = rw (le-ltb 16 (length (first_uses (uses_in text marks places))) (omega (arith, l))) (get_or-eq_default (first_uses (uses_in text marks places)) [] {n = wanted} (omega (arith, l, h)))
 
   module _ {words : List ℕ} (k : words ≡ own_kinds marks) {words' : List ℕ} {many : ℕ} (n : Numbering text.now places words 0 16 words' many) where
-    pub among_over : 16 < many → (ptr : ℕ × ℕ) (name : ℕ) → Among text marks places wanted (record { ref_ptr = ptr; ghost_name = name; now = [] })
-    among_over h ptr name = nothing (rw (lt-ltb 16 (length (first_uses (uses_in text marks places))) (rw (← k) (n.over h)))) ptr name
+    pub among_over : 16 < many → (ptr : ℕ × ℕ) → Among text marks places wanted (record { ref_ptr = ptr; now = [] })
+    among_over h ptr = nothing (rw (lt-ltb 16 (length (first_uses (uses_in text marks places))) (rw (← k) (n.over h)))) ptr
 
     pub among_found : many ≤ 16 → (own : List ℕ) → length marks ≡ length own → length places ≡ length own → wanted < 16 → {i : ℕ} → i ≡ first_of wanted words' → {r : Bor (List ℕ)} → IsNamed text places i r → Among text marks places wanted r
     among_found h own a b small {i} e {r} named = go (dec_lt i (length places))
@@ -165,11 +165,11 @@ said_variable text short p i = record {
   long = λ h. absurd (omega (arith, h, short));
 }
 
-pub wrong_variable : (text : Bor (List ℕ)) {clause wanted : ℕ} {v : Verdict} → v ≡ judged text.now → {place : ℕ} → v ≡ Wrong place → (ptr : ℕ × ℕ) (name : ℕ)
-    → IsVariable text clause wanted (record { ref_ptr = ptr; ghost_name = name; now = [] })
-wrong_variable text is e ptr name = record {
+pub wrong_variable : (text : Bor (List ℕ)) {clause wanted : ℕ} {v : Verdict} → v ≡ judged text.now → {place : ℕ} → v ≡ Wrong place → (ptr : ℕ × ℕ)
+    → IsVariable text clause wanted (record { ref_ptr = ptr; now = [] })
+wrong_variable text is e ptr = record {
   at = length text.now;
-  part = none_stands text (omega arith) ptr name;
+  part = none_stands text (omega arith) ptr;
   said = λ short cs y. let o = only_verdict (fine short y) in let z : ◌≡◌ {A = ℕ} 0 1 = cc in absurd (omega arith);
   wrong = λ _. refl;
   long = λ _. refl;

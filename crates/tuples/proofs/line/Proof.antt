@@ -11,12 +11,10 @@ pub line_spec : {M : Type 1} → statement M
 line_spec =
     tie.close
     (tie.spec
-    (λ c. search all)
+    (λ c κs. search all)
+    (λ c κs. search all)
+    (λ c κs. search all)
     (λ c κs. search all)
     (λ c κs. search all)
     (λ c. search all)
-    (λ c κs. search all)
-    (λ c κs. search all)
-    (λ c κs. search all)
-    (λ c. search all)
-    (λ c. let a = c.before.before.before.before.before.before.before.before.before.before.before.before.before.before.before.before.before.before.before.before.before.before.before.before.before.before.before.before.args in line_parts a.name.now (names_in a.text.now a.index.now []) a.disjuncts a.question.now a.own.now c.before.before.before.before.before.before.before.before.before.before.before.before.before.before.before.before.before.before.before.bytes.ensures c.before.before.before.before.before.before.before.before.before.before.before.before.before.before.before.tuples.ensures c.before.before.before.before.before.before.before.before.before.before.bytes2.ensures c.before.before.before.before.before.before.bytes3.ensures c.before.before.byte.ensures))
+    (λ c. let a = c.args in line_parts a.name.now (names_in a.text.now a.index.now []) a.disjuncts a.question.now a.own.now c.bytes-a.ensures c.tuples-b.ensures c.bytes-c.ensures c.bytes-d.ensures c.byte.ensures))

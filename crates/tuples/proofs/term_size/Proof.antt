@@ -7,10 +7,10 @@ use Rattle.tuples.proofs.term_size.Tie as tie
 
 ruleset all = (rules, span_laws)
 
-abbrev invariant-loop : tie.invariant-loop
+abbrev invariant-loop : tie.invariant-loop-at
 invariant-loop own terms₀ at₀ terms at = Spanning own terms at
 
-abbrev decreases-loop : tie.decreases-loop
+abbrev decreases-loop : tie.decreases-loop-at
 decreases-loop own terms₀ at₀ terms at = length own - at
 
 pub term_size_spec : {M : Type 1} → statement M

@@ -1,5 +1,4 @@
 use Rattle.limits.proofs.Finding.{Searching, search_asked, search_stated, search_laws}
-use borrow.Author.Tests.{not-false}
 use Prim.Native.Nat.{◌-◌}
 use lib.ListN.{length}
 use borrow.Author.Rules.{rules}
@@ -8,10 +7,10 @@ use Rattle.limits.proofs.find.find_in.Tie as tie
 
 ruleset all = (rules, search_laws)
 
-abbrev invariant-loop : tie.invariant-loop
+abbrev invariant-loop : tie.invariant-loop-at
 invariant-loop text marks places stated₀ asked₀ at₀ stated asked at = Searching text marks places stated asked at
 
-abbrev decreases-loop : tie.decreases-loop
+abbrev decreases-loop : tie.decreases-loop-at
 decreases-loop text marks places stated₀ asked₀ at₀ stated asked at = length marks - at
 
 pub find_in_spec : {M : Type 1} → statement M
@@ -34,8 +33,8 @@ find_in_spec =
     (λ c. search all)
     (λ c. search all)
     (λ c. search all)
-    (λ c. search_asked c.before.before.before.before.before.before.before.before.loop.invariant c.before.before.before.before.before.before.before.before.before.before.before.before.requires.0 c.before.before.before.before.before.before.before.loop-test.true c.before.before.before.before.seek.ensures c.before.before.before.limit-at.ensures c.before.before.before.before.before.asks.ensures c.before.before.is-nothing.ensures (not-false _ c.before.if1.false) c.if2.true)
+    (λ c. search_asked c.loop-at.invariant c.requires.0 c.loop-at-test.true c.seek-end.ensures c.limit_at-limit.ensures c.asks-question.ensures c.is_nothing.ensures c.if-not-is_nothing.false c.if-question.true)
     (λ c. search all)
     (λ c. search all)
-    (λ c. search_stated c.before.before.before.before.before.before.before.before.loop.invariant c.before.before.before.before.before.before.before.before.before.before.before.before.requires.0 c.before.before.before.before.before.before.before.loop-test.true c.before.before.before.before.seek.ensures c.before.before.before.limit-at.ensures c.before.before.before.before.before.asks.ensures c.before.before.is-nothing.ensures (not-false _ c.before.if1.false) c.if2.false)
+    (λ c. search_stated c.loop-at.invariant c.requires.0 c.loop-at-test.true c.seek-end.ensures c.limit_at-limit.ensures c.asks-question.ensures c.is_nothing.ensures c.if-not-is_nothing.false c.if-question.false)
     (λ c. search all))

@@ -7,10 +7,10 @@ use Rattle.limits.proofs.find.most_parts.Tie as tie
 
 ruleset all = (rules, most_laws)
 
-abbrev invariant-loop : tie.invariant-loop
+abbrev invariant-loop : tie.invariant-loop-i
 invariant-loop marks most₀ i₀ most i = Most marks most i
 
-abbrev decreases-loop : tie.decreases-loop
+abbrev decreases-loop : tie.decreases-loop-i
 decreases-loop marks most₀ i₀ most i = length marks - i
 
 pub most_parts_spec : {M : Type 1} → statement M

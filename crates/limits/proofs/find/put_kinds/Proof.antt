@@ -7,10 +7,10 @@ use Rattle.limits.proofs.find.put_kinds.Tie as tie
 
 ruleset all = (rules, fill_laws)
 
-abbrev invariant-loop : tie.invariant-loop
+abbrev invariant-loop : tie.invariant-loop-i
 invariant-loop marks words₀ i₀ words i = Filling marks words i
 
-abbrev decreases-loop : tie.decreases-loop
+abbrev decreases-loop : tie.decreases-loop-i
 decreases-loop marks words₀ i₀ words i = length marks - i
 
 pub put_kinds_spec : {M : Type 1} → statement M

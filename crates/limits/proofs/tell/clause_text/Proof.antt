@@ -10,9 +10,8 @@ clause_text_spec =
     tie.close
     (tie.spec
     (λ c κs. search rules)
-    (λ c. search rules)
     (λ c κs. search rules)
     (λ c κs. search rules)
     (λ c κs. search rules)
     (λ c. search rules)
-    (λ c. let a = c.before.before.before.before.before.before.before.before.before.before.before.before.before.before.before.before.before.before.before.before.args in clause_told a.file.now a.text.now c.before.before.before.before.before.before.before.before.before.before.before.before.before.before.before.bytes.ensures c.before.before.before.before.before.before.before.before.before.before.bytes2.ensures c.before.before.before.before.before.before.put-name.ensures c.before.before.reason.ensures))
+    (λ c. let a = c.args in clause_told a.file.now a.text.now c.bytes-a.ensures c.bytes-b.ensures c.put_name-c.ensures c.reason.ensures))

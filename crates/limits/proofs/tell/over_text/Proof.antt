@@ -12,7 +12,6 @@ over_text_spec =
     (λ c κs. search rules)
     (λ c κs. search rules)
     (λ c κs. search rules)
-    (λ c. search rules)
     (λ c κs. search rules)
     (λ c. search rules)
     (λ c. search all)

@@ -7,10 +7,10 @@ use Rattle.variable_names.proofs.find.behind.Tie as tie
 
 ruleset all = (rules, pass_laws)
 
-abbrev invariant-loop : tie.invariant-loop
+abbrev invariant-loop : tie.invariant-loop-at
 invariant-loop marks sort number left₀ at₀ left at = Passing marks sort number left at
 
-abbrev decreases-loop : tie.decreases-loop
+abbrev decreases-loop : tie.decreases-loop-at
 decreases-loop marks sort number left₀ at₀ left at = length marks - at
 
 pub behind_spec : {M : Type 1} → statement M

@@ -7,10 +7,10 @@ use Rattle.variable_names.proofs.find.how_many.Tie as tie
 
 ruleset all = (rules, count_laws)
 
-abbrev invariant-loop : tie.invariant-loop
+abbrev invariant-loop : tie.invariant-loop-at
 invariant-loop marks sort count₀ at₀ count at = Counting marks sort count at
 
-abbrev decreases-loop : tie.decreases-loop
+abbrev decreases-loop : tie.decreases-loop-at
 decreases-loop marks sort count₀ at₀ count at = length marks - at
 
 pub how_many_spec : {M : Type 1} → statement M

@@ -7,10 +7,10 @@ use Rattle.variable_names.proofs.own.first.Tie as tie
 
 ruleset all = (rules, look_laws)
 
-abbrev invariant-loop : tie.invariant-loop
+abbrev invariant-loop : tie.invariant-loop-i
 invariant-loop words wanted i₀ i = Looking words wanted i
 
-abbrev decreases-loop : tie.decreases-loop
+abbrev decreases-loop : tie.decreases-loop-i
 decreases-loop words wanted i₀ i = length words - i
 
 pub first_spec : {M : Type 1} → statement M
