@@ -7,8 +7,7 @@ use Rattle.words.specs.Steps.{step_of}
 use Rattle.text.specs.Quoted.{bytes}
 use Rattle.leaves.specs.Leaves.{opens, other, hung, started, open_after, leftmost, hung_under, above, ancestor}
 use Rattle.leaves.specs.Shown.{cut_to}
-use Rattle.leaves.specs.Bound.{copies_by, copy_number, mark_text, has_variable, is_told}
-use Rattle.leaves.specs.declared.leaf.Leaf.{Leaf}
+use Rattle.leaves.specs.Bound.{copies_by, copy_number, has_variable}
 use Rattle.leaves.specs.declared.leaf.Leaf.TheVariants.{Open, Nothing}
 
 unfoldable opened : Unit {0}

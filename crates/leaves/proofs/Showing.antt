@@ -1,8 +1,8 @@
 -- Clauses and literals shown: one law for each outcome of the code, with premises as the code has them.
 use mathlib.Core.Bool.{Bool, true, false, cond, ◌&&◌}
-use mathlib.Core.List.{List, [], ◌∷◌, ◌++◌}
-use mathlib.Core.Path.{◌≡◌, refl, sym, ap, ◌∙◌}
-use Prim.Native.Nat.{ℕ, zero, suc, ◌+◌, ◌-◌, ◌≤◌, ◌<◌, ◌^◌}
+use mathlib.Core.List.{List, [], ◌∷◌}
+use mathlib.Core.Path.{◌≡◌, refl, ap, ◌∙◌}
+use Prim.Native.Nat.{ℕ, zero, suc, ◌+◌, ◌-◌, ◌≤◌, ◌<◌}
 use native.Mathlib.Numerals.{add-one}
 use native.Mathlib.Omega.{arith}
 use denote.Ref.{Bor}
@@ -10,15 +10,15 @@ use borrow.Author.Tests.{lt-ltb, le-ltb, lt-leb, le-leb, leb-true, leb-false}
 use lib.Dec.{eqb, leb, ltb}
 use lib.ListN.{length, take, drop, get_or}
 use lib.Seq.{take_all}
-use Rattle.words.specs.Fields.{kind_of, literals_of, following_of}
-use Rattle.table.specs.File.{judge, trailer, clause_starts, part_from, clause_part, Stands}
+use Rattle.words.specs.Fields.{kind_of, literals_of}
+use Rattle.table.specs.File.{judge, clause_starts, part_from, clause_part, Stands}
 use Rattle.text.specs.Put.{put, after, Put}
 use Rattle.text.specs.Quoted.{bytes}
 use Rattle.text.proofs.Putting.{Left, begin, further, finish, then as joined}
 use Rattle.text.proofs.Fitting.{written_whole}
-use Rattle.naming.specs.Index.{IsNamed, name_of, clause_places, variable_places}
+use Rattle.naming.specs.Index.{IsNamed, clause_places, variable_places}
 use Rattle.naming.specs.Shown.{names_in, shown, until_literal, literal_parts, literal_part}
-use Rattle.leaves.specs.Shown.{clause_in, size_in, sizes_from, sizes_in, question_in, literal_word_in, literal_shown, cut_to, literal_cut, name_cut}
+use Rattle.leaves.specs.Shown.{clause_in, size_in, sizes_from, sizes_in, question_in, literal_word_in, literal_shown, cut_to, name_cut}
 
 -- nothing put
 pub no_bytes : (out : List ℕ) (at : ℕ) → Put out at [] out at

@@ -138,7 +138,7 @@ pub fn told(
     from: usize,
 ) -> usize
     requires { length index.now ≡ 16896 }
-    ensures { Put out.old from (told_text (record { text = text.entry.now; index = index.now; file = file.now; bound = bound.now }) before.now after.now copy clause literal) out.new result }
+    ensures { Put out.old from (told_text (record { text = text.now; index = index.now; file = file.now; bound = bound.now }) before.now after.now copy clause literal) out.new result }
 {
     if !is_told(file, bound, copy, clause, literal) {
         return from;

@@ -6,10 +6,10 @@ use Rattle.leaves.proofs.bound.copy_number.Tie as tie
 
 ruleset all = (rules, copies_laws)
 
-abbrev invariant-loop : tie.invariant-loop
+abbrev invariant-loop : tie.invariant-loop-i
 invariant-loop steps number count₀ i₀ count i = CountingCopies steps number count i
 
-abbrev decreases-loop : tie.decreases-loop
+abbrev decreases-loop : tie.decreases-loop-i
 decreases-loop steps number count₀ i₀ count i = number - i
 
 pub copy_number_spec : {M : Type 1} → statement M

@@ -9,10 +9,10 @@ use Rattle.leaves.proofs.bound.has_variable.Tie as tie
 
 ruleset all = (rules, variable_laws)
 
-abbrev invariant-loop : tie.invariant-loop
+abbrev invariant-loop : tie.invariant-loop-i
 invariant-loop own i₀ i = has_variable (drop i own) ≡ has_variable own
 
-abbrev decreases-loop : tie.decreases-loop
+abbrev decreases-loop : tie.decreases-loop-i
 decreases-loop own i₀ i = length own - i
 
 pub has_variable_spec : {M : Type 1} → statement M

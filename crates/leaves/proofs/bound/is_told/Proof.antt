@@ -10,10 +10,10 @@ is_told_spec =
     tie.close
     (tie.spec
     (λ c κs. search all)
-    (λ c. told_not _ _ _ _ _ c.before.count.ensures c.if1.true)
+    (λ c. told_not _ _ _ _ _ c.count.ensures c.if-count-eq0.true)
     (λ c κs. search all)
     (λ c κs. search all)
     (λ c κs. search all)
     (λ c κs. search all)
     (λ c κs. search all)
-    (λ c. told_so _ _ _ _ _ c.before.before.before.before.before.before.count.ensures c.before.before.before.before.before.if1.false c.before.before.before.before.wide.ensures c.before.before.before.clause.ensures.0 c.before.before.wide2.ensures c.before.literal.ensures c.has-variable.ensures))
+    (λ c. told_so _ _ _ _ _ c.count.ensures c.if-count-eq0.false c.wide.ensures c.clause.ensures.0 c.wide-2.ensures c.literal.ensures c.has_variable.ensures))

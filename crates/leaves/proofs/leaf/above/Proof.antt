@@ -5,19 +5,19 @@ use Rattle.leaves.proofs.Leaves.{above_laws}
 
 ruleset all = (rules, above_laws)
 
-enum-known-leaf : tie.Need-enum-known-leaf
+enum-known-leaf : tie.Need-enum_known-leaf
 enum-known-leaf c = search all
 
-hung-under-requires : tie.Need-hung-under-requires
+hung-under-requires : tie.Need-hung_under-requires
 hung-under-requires c κs = search all
 
-enum_told : tie.Need-enum-told
+enum_told : tie.Need-enum_told-1
 enum_told c = search all
 
-returns : tie.Need-returns
+returns : tie.Need-returns-in-Open
 returns c = search all
 
-returns-2 : tie.Need-returns-2
+returns-2 : tie.Need-returns-in-Nothing
 returns-2 c = search all
 
 pub above_spec : {M : Type 1} → statement M

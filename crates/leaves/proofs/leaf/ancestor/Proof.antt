@@ -5,25 +5,25 @@ use Rattle.leaves.proofs.Leaves.{Climbing, climb_laws}
 
 ruleset all = (rules, climb_laws)
 
-abbrev invariant-loop : tie.invariant-loop
+abbrev invariant-loop : tie.invariant-loop-left
 invariant-loop sizes question steps height reached₀ left₀ reached left = Climbing sizes question steps height reached₀ left reached
 
-abbrev decreases-loop : tie.decreases-loop
+abbrev decreases-loop : tie.decreases-loop-left
 decreases-loop sizes question steps height reached₀ left₀ reached left = left
 
-loop-holds : tie.Need-loop-init invariant-loop decreases-loop
+loop-holds : tie.Need-loop-left-init invariant-loop decreases-loop
 loop-holds c = search all
 
-above-requires : tie.Need-above-requires invariant-loop decreases-loop
+above-requires : tie.Need-above-reached-requires invariant-loop decreases-loop
 above-requires c κs = search all
 
-sub-left : tie.Need-overflow-sub-left invariant-loop decreases-loop
+sub-left : tie.Need-overflow_sub-left invariant-loop decreases-loop
 sub-left c = search all
 
-loop-less : tie.Need-loop-smaller invariant-loop decreases-loop
+loop-less : tie.Need-loop-left-smaller invariant-loop decreases-loop
 loop-less c = search all
 
-loop-again : tie.Need-loop-preserved invariant-loop decreases-loop
+loop-again : tie.Need-loop-left-preserved invariant-loop decreases-loop
 loop-again c = search all
 
 returns : tie.Need-returns invariant-loop decreases-loop

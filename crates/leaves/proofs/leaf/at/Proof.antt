@@ -5,19 +5,19 @@ use Rattle.leaves.proofs.Leaves.{at_laws}
 
 ruleset all = (rules, at_laws)
 
-wide-requires : tie.Need-wide-requires
+wide-requires : tie.Need-wide-i-requires
 wide-requires c κs = search all
 
-returns : tie.Need-returns
+returns : tie.Need-returns-then-list-i
 returns c = search all
 
-mul-result : tie.Need-overflow-mul-result
+mul-result : tie.Need-offset_bounds-list-i
 mul-result c = search all
 
-shared-slice-read-result : tie.Need-shared-slice-read-result
+shared-slice-read-result : tie.Need-bounds-list-i
 shared-slice-read-result c = search all
 
-returns-2 : tie.Need-returns-2
+returns-2 : tie.Need-returns
 returns-2 c = search all
 
 pub at_spec : {M : Type 1} → statement M

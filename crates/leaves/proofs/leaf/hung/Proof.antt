@@ -8,31 +8,31 @@ ruleset all = (rules, hung_laws)
 decode-requires : tie.Need-decode-requires
 decode-requires c κs = search all
 
-enum_told : tie.Need-enum-told
+enum_told : tie.Need-enum_told-1
 enum_told c = search all
 
-enum-known-clause : tie.Need-enum-known-clause
+enum-known-clause : tie.Need-enum_known-clause
 enum-known-clause c = search all
 
 other-requires : tie.Need-other-requires
 other-requires c κs = search all
 
-enum-told-2 : tie.Need-enum-told-2
+enum-told-2 : tie.Need-enum_told-in-Restart
 enum-told-2 c = search all
 
-enum-told-3 : tie.Need-enum-told-3
+enum-told-3 : tie.Need-enum_told-in-Malformed
 enum-told-3 c = search all
 
-returns : tie.Need-returns
+returns : tie.Need-returns-in-Reduction
 returns c = search all
 
-returns-2 : tie.Need-returns-2
+returns-2 : tie.Need-returns-in-Extension
 returns-2 c = search all
 
-returns-3 : tie.Need-returns-3
+returns-3 : tie.Need-returns-in-Restart
 returns-3 c = search all
 
-returns-4 : tie.Need-returns-4
+returns-4 : tie.Need-returns-in-Malformed
 returns-4 c = search all
 
 pub hung_spec : {M : Type 1} → statement M

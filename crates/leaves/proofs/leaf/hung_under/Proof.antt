@@ -5,16 +5,16 @@ use Rattle.leaves.proofs.Leaves.{above_laws}
 
 ruleset all = (rules, above_laws)
 
-returns : tie.Need-returns
+returns : tie.Need-returns-then-number-eq0
 returns c = search all
 
-sub-leftmost : tie.Need-overflow-sub-leftmost
+sub-leftmost : tie.Need-overflow_sub-number
 sub-leftmost c = search all
 
 leftmost-requires : tie.Need-leftmost-requires
 leftmost-requires c κs = search all
 
-returns-2 : tie.Need-returns-2
+returns-2 : tie.Need-returns
 returns-2 c = search all
 
 pub hung_under_spec : {M : Type 1} → statement M

@@ -5,13 +5,13 @@ use Rattle.leaves.proofs.leaf.other.Tie as tie
 
 ruleset all = (rules, other_laws)
 
-returns : tie.Need-returns
+returns : tie.Need-returns-then-n-entered
 returns c = search all
 
-add-result : tie.Need-overflow-add-result
+add-result : tie.Need-overflow_add-result
 add-result c = search all
 
-returns-2 : tie.Need-returns-2
+returns-2 : tie.Need-returns
 returns-2 c = search all
 
 pub other_spec : {M : Type 1} → statement M

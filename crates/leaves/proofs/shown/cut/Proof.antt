@@ -8,28 +8,25 @@ ruleset all = (rules, cut_laws)
 bytes-requires : tie.Need-bytes-requires
 bytes-requires c κs = search all
 
-same_length : tie.Need-same-length
+same_length : tie.Need-shape_of-out-then-own-most
 same_length c = search all
 
-returns : tie.Need-returns
+returns : tie.Need-returns-then-own-most
 returns c = search all
 
-front-bytes-requires : tie.Need-front-bytes-requires
+front-bytes-requires : tie.Need-front_bytes-requires
 front-bytes-requires c κs = search all
 
-bytes-requires-2 : tie.Need-bytes-requires-2
+bytes-requires-2 : tie.Need-bytes-front-requires
 bytes-requires-2 c κs = search all
 
-slice-aggregate-bytes : tie.Need-slice-aggregate-bytes
-slice-aggregate-bytes c = search all
-
-bytes-requires-3 : tie.Need-bytes-requires-3
+bytes-requires-3 : tie.Need-bytes-requires-2
 bytes-requires-3 c κs = search all
 
-same-length-2 : tie.Need-same-length-2
+same-length-2 : tie.Need-shape_of-out
 same-length-2 c = search all
 
-returns-2 : tie.Need-returns-2
+returns-2 : tie.Need-returns
 returns-2 c = search all
 
 pub cut_spec : {M : Type 1} → statement M
@@ -41,7 +38,6 @@ cut_spec =
     returns
     front-bytes-requires
     bytes-requires-2
-    slice-aggregate-bytes
     bytes-requires-3
     same-length-2
     returns-2)

@@ -14,19 +14,19 @@ clause-requires c κs = search all
 wide-requires-2 : tie.Need-wide-requires-2
 wide-requires-2 c κs = search all
 
-literal-requires : tie.Need-literal-requires
+literal-requires : tie.Need-literal-own-requires
 literal-requires c κs = search all
 
 wide-requires-3 : tie.Need-wide-requires-3
 wide-requires-3 c κs = search all
 
-variables-requires : tie.Need-variables-requires
+variables-requires : tie.Need-variables-variables-requires
 variables-requires c κs = search all
 
 words-requires : tie.Need-words-requires
 words-requires c κs = search all
 
-same_length : tie.Need-same-length
+same_length : tie.Need-shape_of-out
 same_length c = search all
 
 returns : tie.Need-returns

@@ -5,22 +5,22 @@ use Rattle.leaves.proofs.Showing.{literal_cut_is}
 
 ruleset all = (rules, literal_cut_is)
 
-slice-aggregate-literal : tie.Need-slice-aggregate-literal
+slice-aggregate-literal : tie.Need-slice_bounds-literal-end
 slice-aggregate-literal c = search all
 
-literal-requires : tie.Need-literal-requires
+literal-requires : tie.Need-literal-n-requires
 literal-requires c κs = search all
 
-slice-aggregate-front-bytes : tie.Need-slice-aggregate-front-bytes
+slice-aggregate-front-bytes : tie.Need-slice_bounds-front_bytes-end
 slice-aggregate-front-bytes c = search all
 
-front-bytes-requires : tie.Need-front-bytes-requires
+front-bytes-requires : tie.Need-front_bytes-requires
 front-bytes-requires c κs = search all
 
 cut-requires : tie.Need-cut-requires
 cut-requires c κs = search all
 
-same_length : tie.Need-same-length
+same_length : tie.Need-shape_of-out
 same_length c = search all
 
 returns : tie.Need-returns

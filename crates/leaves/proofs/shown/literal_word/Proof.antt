@@ -14,16 +14,16 @@ clause-requires c κs = search all
 wide-requires-2 : tie.Need-wide-requires-2
 wide-requires-2 c κs = search all
 
-literal-requires : tie.Need-literal-requires
+literal-requires : tie.Need-literal-own-requires
 literal-requires c κs = search all
 
-returns : tie.Need-returns
+returns : tie.Need-returns-then-own-eq0
 returns c = search all
 
-shared-slice-read-result : tie.Need-shared-slice-read-result
+shared-slice-read-result : tie.Need-bounds-own-0
 shared-slice-read-result c = search all
 
-returns-2 : tie.Need-returns-2
+returns-2 : tie.Need-returns
 returns-2 c = search all
 
 pub literal_word_spec : {M : Type 1} → statement M

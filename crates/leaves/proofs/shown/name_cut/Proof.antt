@@ -14,7 +14,7 @@ clause-requires c κs = search all
 cut-requires : tie.Need-cut-requires
 cut-requires c κs = search all
 
-same_length : tie.Need-same-length
+same_length : tie.Need-shape_of-out
 same_length c = search all
 
 returns : tie.Need-returns

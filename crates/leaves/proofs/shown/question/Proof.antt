@@ -5,25 +5,25 @@ use Rattle.leaves.proofs.Showing.{question_laws}
 
 ruleset all = (rules, question_laws)
 
-returns : tie.Need-returns
+returns : tie.Need-returns-then-file-lt4
 returns c = search all
 
-sub-one-less : tie.Need-overflow-sub-one-less
+sub-one-less : tie.Need-overflow_sub-file
 sub-one-less c = search all
 
-add-one-less : tie.Need-overflow-add-one-less
+add-one-less : tie.Need-overflow_add-file
 add-one-less c = search all
 
-mul-one-less : tie.Need-overflow-mul-one-less
+mul-one-less : tie.Need-offset_bounds-file-file
 mul-one-less c = search all
 
-shared-slice-read-one-less : tie.Need-shared-slice-read-one-smaller
+shared-slice-read-one-less : tie.Need-bounds-file-file
 shared-slice-read-one-less c = search all
 
-one-less-requires : tie.Need-one-less-requires
+one-less-requires : tie.Need-one_less-requires
 one-less-requires c κs = search all
 
-returns-2 : tie.Need-returns-2
+returns-2 : tie.Need-returns
 returns-2 c = search all
 
 pub question_spec : {M : Type 1} → statement M

@@ -5,19 +5,19 @@ use Rattle.leaves.proofs.Showing.{size_laws}
 
 ruleset all = (rules, size_laws)
 
-clause-requires : tie.Need-clause-requires
+clause-requires : tie.Need-clause-own-requires
 clause-requires c κs = search all
 
-returns : tie.Need-returns
+returns : tie.Need-returns-then-own-eq0
 returns c = search all
 
-shared-slice-read-literals : tie.Need-shared-slice-read-literals
+shared-slice-read-literals : tie.Need-bounds-own-0
 shared-slice-read-literals c = search all
 
 literals-requires : tie.Need-literals-requires
 literals-requires c κs = search all
 
-returns-2 : tie.Need-returns-2
+returns-2 : tie.Need-returns
 returns-2 c = search all
 
 pub size_spec : {M : Type 1} → statement M
