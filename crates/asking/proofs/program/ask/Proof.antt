@@ -9,4 +9,4 @@ ask_spec =
     (tie.spec
     (λ c κs. search rules)
     (λ c. search rules)
-    (λ c. (search rules, λ h. whole_text _ c.before.before.answer.ensures h)))
+    (λ c. (search rules, λ h. whole_text _ c.answer.ensures h)))

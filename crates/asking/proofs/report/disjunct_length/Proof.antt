@@ -8,10 +8,10 @@ use Rattle.asking.proofs.report.disjunct_length.Tie as tie
 
 ruleset all = (rules, pass_laws)
 
-abbrev invariant-loop : tie.invariant-loop
+abbrev invariant-loop : tie.invariant-loop-i
 invariant-loop answer literals left₀ i₀ left i = Passing answer literals i left
 
-abbrev decreases-loop : tie.decreases-loop
+abbrev decreases-loop : tie.decreases-loop-i
 decreases-loop answer literals left₀ i₀ left i = length answer - i
 
 pub disjunct_length_spec : {M : Type 1} → statement M
@@ -28,7 +28,7 @@ disjunct_length_spec =
     (λ c. search all)
     (λ c. search all)
     (λ c. search all)
-    (λ c. let loop = c.before.before.before.before.before in pass_one loop.loop.invariant c.before.before.before.before.loop-test.true c.before.before.kind.ensures c.before.if1.true c.if2.false)
+    (λ c. let loop = c in pass_one loop.loop-i.invariant c.loop-i-test.true c.kind.ensures c.if-kind-eq2.true c.if-left-eq0.false)
     (λ c. search all)
     (λ c. search all)
     (λ c. search all)

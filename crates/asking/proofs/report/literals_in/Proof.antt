@@ -7,10 +7,10 @@ use Rattle.asking.proofs.report.literals_in.Tie as tie
 
 ruleset all = (rules, count_laws)
 
-abbrev invariant-loop : tie.invariant-loop
+abbrev invariant-loop : tie.invariant-loop-i
 invariant-loop answer count₀ i₀ count i = Counting answer count i
 
-abbrev decreases-loop : tie.decreases-loop
+abbrev decreases-loop : tie.decreases-loop-i
 decreases-loop answer count₀ i₀ count i = length answer - i
 
 pub literals_in_spec : {M : Type 1} → statement M

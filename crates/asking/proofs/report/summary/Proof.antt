@@ -9,11 +9,8 @@ pub summary_spec : {M : Type 1} → statement M
 summary_spec =
     tie.close
     (tie.spec
-    (λ c. search all)
     (λ c κs. search all)
-    (λ c. search all)
     (λ c κs. search all)
-    (λ c. search all)
     (λ c κs. search all)
     (λ c κs. search all)
     (λ c. search all)
