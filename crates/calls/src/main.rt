@@ -51,6 +51,7 @@ fn end_line(rt: &HostRuntime, line: &[u8], used: usize, ended: bool) -> io::Resu
     Ok(used)
 }
 
+#[tactic(auto, using(crate::proofs::Ends::line_within, crate::proofs::Ends::line_begins))]
 fn line_end(chunk: &[u8], at: usize) -> usize
     requires { at < length chunk.now }
     ensures { (at ≤ result) × (result ≤ length chunk.now) }

@@ -22,11 +22,11 @@ wrong-requires : tie.Need-wrong-requires
 wrong-requires c κs = search rules
 
 -- src/refuse.rt:26:9
-same_length : tie.Need-same-length
+same_length : tie.Need-shape_of-out-then-read-eq17
 same_length c = search rules
 
 -- src/refuse.rt:26:9
-returns : tie.Need-returns
+returns : tie.Need-returns-then-read-eq17
 returns c = search all
 
 -- src/refuse.rt:29:54
@@ -38,11 +38,11 @@ unasked-requires : tie.Need-unasked-requires
 unasked-requires c κs = search rules
 
 -- src/refuse.rt:29:9
-same-length-2 : tie.Need-same-length-2
+same-length-2 : tie.Need-shape_of-out-then-read-eq18
 same-length-2 c = search rules
 
 -- src/refuse.rt:29:9
-returns-2 : tie.Need-returns-2
+returns-2 : tie.Need-returns-then-read-eq18
 returns-2 c = search all
 
 -- src/refuse.rt:32:9
@@ -50,11 +50,11 @@ positive-requires : tie.Need-positive-requires
 positive-requires c κs = search rules
 
 -- src/refuse.rt:32:9
-same-length-3 : tie.Need-same-length-3
+same-length-3 : tie.Need-shape_of-out-then-read-eq9
 same-length-3 c = search rules
 
 -- src/refuse.rt:32:9
-returns-3 : tie.Need-returns-3
+returns-3 : tie.Need-returns-then-read-eq9
 returns-3 c = search all
 
 -- src/refuse.rt:34:5
@@ -62,11 +62,11 @@ over-requires : tie.Need-over-requires
 over-requires c κs = search rules
 
 -- src/refuse.rt:22:1
-same-length-4 : tie.Need-same-length-4
+same-length-4 : tie.Need-shape_of-out
 same-length-4 c = search rules
 
 -- src/refuse.rt:22:1
-returns-4 : tie.Need-returns-4
+returns-4 : tie.Need-returns
 returns-4 c = search all
 
 pub refusal_spec : {M : Type 1} → statement M
