@@ -1,21 +1,20 @@
 -- What the call tells by what it learns at the door: refused as a search is, or the bounds in turn.
 use mathlib.Core.List.{List}
-use mathlib.Core.Path.{◌≡◌, refl, sym, ap, ◌∙◌}
+use mathlib.Core.Path.{◌≡◌, refl, ◌∙◌}
 use Prim.Native.Nat.{ℕ, zero, suc, ◌+◌, ◌-◌, ◌≤◌, ◌<◌}
 use native.Mathlib.Omega.{arith}
 use Rattle.table.specs.File.{table_in}
-use Rattle.hukolearu.specs.Calls.{Given, refused, refused_by, SearchAsked, search_inputs}
+use Rattle.hukolearu.specs.Calls.{Given, refused, SearchAsked, search_inputs}
 use Rattle.hukolearu.specs.Says.{SearchAccepted}
 use Rattle.hukolearu.specs.Door.{entry_of}
 use Rattle.hukolearu.specs.declared.Outcome.{Outcome}
 use Rattle.hukolearu.specs.declared.door.Entry.{Entry}
-use Rattle.hukolearu.specs.declared.door.Entry.TheVariants.{Open, Refused}
-use Rattle.hukolearu.proofs.DoorLaws.{opened, shut, inside}
+use Rattle.hukolearu.specs.declared.door.Entry.TheVariants.{Refused}
+use Rattle.hukolearu.proofs.DoorLaws.{shut, inside}
 use Rattle.hukolearu.proofs.Says.{search_accepted}
 use Rattle.smallest.specs.Smallest.{LeastGiven, from_bound, search_at, refused_all, smallest_call}
 use Rattle.smallest.specs.Trying.{Tells, search_inside, tried_inside}
 use Rattle.smallest.specs.declared.Least.{Least}
-use Rattle.smallest.proofs.Bounds.{none_left}
 
 -- searches that say the same at every bound that is tried lead to the same
 pub same_searches : (s u : ℕ → ℕ → Given) (budget bound more used : ℕ) → ((k b : ℕ) → k < bound + more → s k b ≡ u k b)

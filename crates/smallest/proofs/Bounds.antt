@@ -1,22 +1,20 @@
 -- Bound by bound: where a search says "none" the next bound is tried, every other ends the call.
-use mathlib.Core.Bool.{true, false}
 use mathlib.Core.List.{List, []}
 use mathlib.Core.Path.{◌≡◌, refl, sym, ap, ◌∙◌}
-use Prim.Native.Nat.{ℕ, zero, suc, ◌+◌, ◌-◌, ◌≤◌, ◌<◌}
+use Prim.Native.Nat.{ℕ, suc, ◌+◌, ◌-◌, ◌≤◌, ◌<◌}
 use native.Mathlib.Numerals.{add-one}
 use native.Mathlib.Omega.{arith}
 use borrow.Author.Tests.{eq-eqb, ne_eqb}
 use lib.ListN.{length}
-use Rattle.table.specs.File.{judge, table_in}
+use Rattle.table.specs.File.{table_in}
 use Rattle.rules.specs.Setting.{Setting, base}
-use Rattle.hukolearu.specs.Calls.{Given, room_of, at_front}
+use Rattle.hukolearu.specs.Calls.{Given, room_of}
 use Rattle.hukolearu.specs.Says.{SearchSays, ran_out, none_found, found_fitting, found_too_long}
 use Rattle.hukolearu.specs.Telling.{Told, Passed}
 use Rattle.hukolearu.specs.declared.Outcome.{Outcome}
 use Rattle.hukolearu.proofs.Says.{search_given_lem}
-use Rattle.smallest.specs.Smallest.{LeastGiven, summed, ended, ends_at, none_up_to, from_bound}
+use Rattle.smallest.specs.Smallest.{summed, ended, ends_at, none_up_to, from_bound}
 use Rattle.smallest.specs.Trying.{Tells, search_inside, tried_inside}
-use Rattle.smallest.specs.declared.Least.{Least}
 
 pub ended_out : (bound : ℕ) {status : ℕ} → status ≡ 11 → 0 ≡ ended bound status
 ended_out bound {status} e = rw (eq-eqb status 11 e)

@@ -1,6 +1,4 @@
 -- Each statement of specs/SmallestDemands.antt is proved.
-use mathlib.Core.Bool.{true, false}
-use mathlib.Core.List.{List}
 use mathlib.Core.Logic.{◌↔◌, ◌⊎◌, inl, inr, ◌≢◌}
 use mathlib.Core.Option.{Option, none, some}
 use mathlib.Core.Path.{◌≡◌, refl, sym, ap, ◌∙◌, subst}
@@ -10,21 +8,20 @@ use native.Mathlib.Decide.{ℕ_discrete}
 use native.Mathlib.Omega.{arith}
 use Rattle.table.specs.Syntax.{Table}
 use Rattle.table.specs.File.{table_in}
-use Rattle.hukolearu.specs.Calls as Calls
-use Rattle.hukolearu.specs.Calls.{Given, SearchAsked, search_inputs, search_call}
+use Rattle.hukolearu.specs.Calls.{Given, SearchAsked, search_inputs}
 use Rattle.hukolearu.specs.Door.{Fault, first_fault, checks, behind}
 use Rattle.hukolearu.specs.Says.{SearchAccepted}
-use Rattle.hukolearu.specs.CallDemands.{FoundStatus, with_budget}
+use Rattle.hukolearu.specs.CallDemands.{FoundStatus}
 use Rattle.hukolearu.proofs.CallDemands.{same_with_larger_budget}
 use Rattle.hukolearu.proofs.DoorLaws.{passed}
 use Rattle.rules.specs.Setting.{every_leaf}
 use Rattle.rules.proofs.ClosedTableaux.{larger_table}
 use Rattle.rules.proofs.Demands.{order_does_not_matter}
-use Rattle.smallest.specs.Smallest.{LeastGiven, ends_at, none_up_to, from_bound, search_at, refused_all, smallest_call}
+use Rattle.smallest.specs.Smallest.{LeastGiven, ends_at, from_bound, search_at, refused_all, smallest_call}
 use Rattle.smallest.specs.SmallestDemands as Demands
 use Rattle.smallest.specs.SmallestDemands.{Provable, Needs, untold, with_limit}
 use Rattle.smallest.proofs.Bounds.{goes_on, ends, none_left, ended_else}
-use Rattle.smallest.proofs.AtTheDoor.{accepted_at, call_accepted}
+use Rattle.smallest.proofs.AtTheDoor.{call_accepted}
 use Rattle.smallest.proofs.Trials.{Trial, ran, none as none_at_all, proof, trial, needs_some, needs_one}
 
 found_no_ten : {status : ℕ} → FoundStatus status → status ≢ 10

@@ -1,6 +1,6 @@
 -- The smallest bound (document 02, order 6): a call that tries bounds 0, 1, 2 up to a limit with one budget for all, and gives the first proof
 -- with its bound. It is a sum over the base's own searches.
-use Rattle.std.specs.Prelude.{cond, List, ℕ, zero, suc, ◌+◌, ◌-◌, eqb}
+use Rattle.std.specs.Prelude.{cond, ℕ, zero, suc, ◌+◌, ◌-◌, eqb}
 use Rattle.hukolearu.specs.Status as Status
 use Rattle.hukolearu.specs.Door.{first_fault, checks, behind, Fault}
 use Rattle.hukolearu.specs.Calls.{Given, refused, refused_by, SearchAsked, search_inputs, search_call}

@@ -1,8 +1,8 @@
 -- Order 6 on document 01's first question, which has no proof at bounds 0 and 1 (0 and 4 tries) and one at 2 (3 tries); and on a file that is refused.
 -- Each promise's premises are met by one of them, and each outcome happens. proofs/Cases.antt proves it by computation.
-use Rattle.std.specs.Prelude.{length, List, [], ◌∷◌, map, ◌≡◌, ℕ}
+use Rattle.std.specs.Prelude.{List, [], ◌∷◌, map, ◌≡◌, ℕ}
 use Rattle.hukolearu.specs.Status as Status
-use Rattle.hukolearu.specs.Calls.{Given, refused, granted, SearchAsked}
+use Rattle.hukolearu.specs.Calls.{refused, granted, SearchAsked}
 use Rattle.hukolearu.specs.Cases.{mat_or_eve, case_one}
 use Rattle.smallest.specs.Smallest.{LeastGiven, smallest_call}
 

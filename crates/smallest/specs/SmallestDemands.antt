@@ -5,15 +5,14 @@ use Rattle.table.specs.Syntax.{Table}
 use Rattle.table.specs.File.{table_in}
 use Rattle.rules.specs.Setting.{base}
 use Rattle.rules.specs.Tableau.{start, Closed}
-use Rattle.rules.specs.Order.{Ending, found, nothing, Searched}
+use Rattle.rules.specs.Order.{found, nothing, Searched}
 use Rattle.rules.specs.Growing.{Larger}
 use Rattle.rules.specs.Reordered.{SameTable}
 use Rattle.hukolearu.specs.Status as Status
 use Rattle.hukolearu.specs.Calls.{Given, SearchAsked}
 use Rattle.hukolearu.specs.Says.{SearchAccepted}
 use Rattle.hukolearu.specs.CallDemands.{FoundStatus, with_budget}
-use Rattle.hukolearu.specs.declared.Outcome.{Outcome}
-use Rattle.smallest.specs.Smallest.{LeastGiven, search_at, smallest_call}
+use Rattle.smallest.specs.Smallest.{search_at, smallest_call}
 
 abbrev pub smallest_status : SearchAsked → ℕ
 smallest_status a = (smallest_call a).given.outcome.status

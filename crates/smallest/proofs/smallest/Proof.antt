@@ -12,38 +12,39 @@ use Rattle.smallest.proofs.AtTheDoor.{call_refused, call_inside, tells_refusal, 
 use Rattle.smallest.proofs.smallest.Statement.{statement}
 use Rattle.smallest.proofs.smallest.Tie as tie
 
-asked : tie.After-enter → SearchAsked
-asked c = let a = c.before.before.before.before.before.args in search_with a.file.now a.limit a.budget a.proof.now a.answer.now a.work.now
+asked : tie.After-enter-entry → SearchAsked
+asked c = let a = c.args in search_with a.file.now a.limit a.budget a.proof.now a.answer.now a.work.now
 
-accepted : (c : tie.After-entry2) → SearchAccepted (asked c.before.before)
+accepted : (c : tie.In-Open) → SearchAccepted (asked c.before)
 unfolding asked
-accepted c = opened _ _ c.before.before.enter.ensures c.entry2.given.1
+accepted c = opened _ _ c.enter-entry.ensures c.in-Open.is
 
-refused-at-door : tie.Need-returns
+refused-at-door : tie.Need-returns-in-Refused
 unfolding asked
 refused-at-door c =
-    let door = c.before.before.before.before.before.before in
-    let e = call_refused (asked door.before.before) door.before.before.enter.ensures door.entry.given.1 in
+    let entered = c.before.before.before.before.before.before in
+    let door = c in
+    let e = call_refused (asked entered) door.enter-entry.ensures door.in-Refused.is in
     let t = tells_refusal e _ _ c.refused.ensures in
-    (t.bound, (t.numbers, (t.steps, (t.words, c.before.before.before.leave.ensures))))
+    (t.bound, (t.numbers, (t.steps, (t.words, c.leave.ensures))))
 
-requires : tie.Need-tried-requires
+requires : tie.Need-tried-least-requires
 unfolding asked
 requires c κs =
-    let door = c.before.before.before.before in
-    let question = at_question _ (search_inputs (asked door.before.before)) door.before.before.enter.ensures door.entry2.given.1 in
-    (all_passed door.before.before.before.before.before.before.before.args.work.now (accepted door) question refl, (accepted door).enough_proof)
+    let door = c in
+    let question = at_question _ (search_inputs (asked c.before.before.before.before)) door.enter-entry.ensures door.in-Open.is in
+    (all_passed door.args.work.now (accepted c.before.before.before) question refl, (accepted c.before.before.before).enough_proof)
 
-admitted : tie.Need-returns-2
+admitted : tie.Need-returns-in-Open
 unfolding asked
 admitted c =
-    let door = c.before.before.before.before.before.before.before.before.before.before.before.before.before.before.before in
-    let inside = c.before.before.before.before.before.before.before.before.before.before.tried in
-    let e = call_inside (asked door.before.before) (accepted door) in
-    let part : List ℕ = inside.new.1.1.1.1.1.1.0 in
-    let rest = work_left _ part (accepted door).enough_work inside.auto.1.1.1.1.1.1.0 in
+    let door = c.before.before.before.before.before.before.before.before.before.before.before.before.before.before in
+    let inside = c.tried-least in
+    let e = call_inside (asked door.before) (accepted door) in
+    let part : List ℕ = inside.new.work in
+    let rest = work_left _ part (accepted door).enough_work inside.auto.work in
     let t = tells_same e inside.ensures in
-    (t.bound, (t.numbers, (t.steps, (t.words, c.before.before.leave2.ensures ∙ rest))))
+    (t.bound, (t.numbers, (t.steps, (t.words, c.leave-in-Open.ensures ∙ rest))))
 
 pub smallest_spec : {M : Type 1} → statement M
 unfolding asked
@@ -55,8 +56,8 @@ smallest_spec =
     (λ c κs. search rules)
     (λ c κs. search rules)
     (λ c. search rules)
-    (λ c. (accepted c.before.before.before).enough_work)
-    (λ c. sym (length-take-le 16384 c.before.before.before.before.before.before.before.before.before.before.before.args.work.now (accepted c.before.before.before.before).enough_work))
+    (λ c. (accepted c.before.before).enough_work)
+    (λ c. sym (length-take-le 16384 c.args.work.now (accepted c.before.before.before).enough_work))
     requires
     (λ c κs. search rules)
     (λ c. search rules)

@@ -10,65 +10,65 @@ use Rattle.smallest.proofs.tried.Tie as tie
 
 ruleset all = (rules, begins, all_tried, passed_at, sum_fits, next, over)
 
-abbrev invariant-loop : tie.invariant-loop
+abbrev invariant-loop : tie.invariant-loop-bound
 invariant-loop file question limit budget proof₀ answer₀ work₀ bound₀ used₀ proof answer work bound used =
     Running file work proof₀ answer₀ proof answer question limit budget bound used
 
-abbrev decreases-loop : tie.decreases-loop
+abbrev decreases-loop : tie.decreases-loop-bound
 decreases-loop file question limit budget proof₀ answer₀ work₀ bound₀ used₀ proof answer work bound used = limit + 1 - bound
 
-loop-holds : tie.Need-loop-init invariant-loop decreases-loop
+loop-holds : tie.Need-loop-bound-init invariant-loop decreases-loop
 loop-holds c = search all
 
-sub-searched : tie.Need-overflow-sub-searched invariant-loop decreases-loop
+sub-searched : tie.Need-overflow_sub-budget invariant-loop decreases-loop
 sub-searched c = search all
 
-searched-requires : tie.Need-searched-requires invariant-loop decreases-loop
-searched-requires c κs = let x = c.before.before.before.before.loop.invariant in (passed_at x (omega arith), proof_enough x)
+searched-requires : tie.Need-searched-outcome-requires invariant-loop decreases-loop
+searched-requires c κs = let x = c.loop-bound.invariant in (passed_at x (omega arith), proof_enough x)
 
 told-requires : tie.Need-told-requires invariant-loop decreases-loop
 told-requires c κs = search all
 
 summed-requires : tie.Need-summed-requires invariant-loop decreases-loop
-summed-requires c κs = let x = c.before.before.before.before.before.before.before.before.before.before.before.before.before.loop.invariant in omega (arith, sum_fits x c.before.before.before.before.before.before.before.before.before.before.before.before.loop-test.true c.before.before.before.before.before.before.before.before.searched.ensures, c.before.before.before.before.before.before.before.before.before.before.before.before.before.before.before.before.before.before.ranges.budget)
+summed-requires c κs = let x = c.loop-bound.invariant in omega (arith, sum_fits x c.loop-bound-test.true c.searched-outcome.ensures, c.ranges.budget)
 
-same_length : tie.Need-same-length invariant-loop decreases-loop
-same_length c = c.before.before.before.before.before.before.before.before.before.searched.auto.1.1.1.1.0 ∙ ap length c.before.before.before.before.before.before.before.before.before.before.before.before.before.before.loop.invariant.steps
+same_length : tie.Need-shape_of-proof-then-status-ne-NONE_FOUND invariant-loop decreases-loop
+same_length c = c.searched-outcome.auto.proof ∙ ap length c.loop-bound.invariant.steps
 
-same-length-2 : tie.Need-same-length-2 invariant-loop decreases-loop
-same-length-2 c = c.before.before.before.before.before.before.before.before.before.searched.auto.1.1.1.1.1.0 ∙ ap length c.before.before.before.before.before.before.before.before.before.before.before.before.before.before.loop.invariant.words
+same-length-2 : tie.Need-shape_of-answer-then-status-ne-NONE_FOUND invariant-loop decreases-loop
+same-length-2 c = c.searched-outcome.auto.answer ∙ ap length c.loop-bound.invariant.words
 
-same-length-3 : tie.Need-same-length-3 invariant-loop decreases-loop
+same-length-3 : tie.Need-shape_of-work-then-status-ne-NONE_FOUND invariant-loop decreases-loop
 same-length-3 c = search all
 
-returns : tie.Need-returns invariant-loop decreases-loop
+returns : tie.Need-returns-then-status-ne-NONE_FOUND invariant-loop decreases-loop
 returns c = search all
 
-add-used : tie.Need-overflow-add-used invariant-loop decreases-loop
-add-used c = let x = c.before.before.before.before.before.before.before.before.before.before.before.before.before.loop.invariant in omega (arith, sum_fits x c.before.before.before.before.before.before.before.before.before.before.before.before.loop-test.true c.before.before.before.before.before.before.before.before.searched.ensures, c.before.before.before.before.before.before.before.before.before.before.before.before.before.before.before.before.before.before.ranges.budget)
+add-used : tie.Need-overflow_add-used invariant-loop decreases-loop
+add-used c = let x = c.loop-bound.invariant in omega (arith, sum_fits x c.loop-bound-test.true c.searched-outcome.ensures, c.ranges.budget)
 
-add-bound : tie.Need-overflow-add-bound invariant-loop decreases-loop
+add-bound : tie.Need-overflow_add-bound invariant-loop decreases-loop
 add-bound c = omega arith
 
-loop-less : tie.Need-loop-smaller invariant-loop decreases-loop
+loop-less : tie.Need-loop-bound-smaller invariant-loop decreases-loop
 loop-less c = omega arith
 
-loop-again : tie.Need-loop-preserved invariant-loop decreases-loop
+loop-again : tie.Need-loop-bound-preserved invariant-loop decreases-loop
 loop-again c = search all
 
 refused-requires : tie.Need-refused-requires invariant-loop decreases-loop
 refused-requires c κs = search all
 
-same-length-4 : tie.Need-same-length-4 invariant-loop decreases-loop
+same-length-4 : tie.Need-shape_of-proof invariant-loop decreases-loop
 same-length-4 c = search all
 
-same-length-5 : tie.Need-same-length-5 invariant-loop decreases-loop
+same-length-5 : tie.Need-shape_of-answer invariant-loop decreases-loop
 same-length-5 c = search all
 
-same-length-6 : tie.Need-same-length-6 invariant-loop decreases-loop
+same-length-6 : tie.Need-shape_of-work invariant-loop decreases-loop
 same-length-6 c = search all
 
-returns-2 : tie.Need-returns-2 invariant-loop decreases-loop
+returns-2 : tie.Need-returns invariant-loop decreases-loop
 returns-2 c = search all
 
 pub tried_spec : {M : Type 1} → statement M
