@@ -7,8 +7,7 @@ use Rattle.text.specs.Quoted.{bytes}
 use Rattle.text.specs.Digits.{digits_of, significant}
 use Rattle.leaves.specs.Leaves.{opens, other, hung, started, open_after, leftmost}
 use Rattle.drawing.specs.Graph.{node_text, stroke_text, between_text, line_text, lines_text, under_text, arrow_text, reduction_text}
-use Rattle.leaves.specs.declared.leaf.Leaf.{Leaf}
-use Rattle.leaves.specs.declared.leaf.Leaf.TheVariants.{Open, Nothing}
+use Rattle.leaves.specs.declared.leaf.Leaf.TheVariants.{Open}
 
 unfoldable opened : Unit {0}
 unfolding step_of digits_of significant opens other hung started open_after node_text stroke_text between_text line_text lines_text under_text arrow_text reduction_text

@@ -1,6 +1,6 @@
 -- A closed tableau as Graphviz text. Each copy of a clause is a box with its clause's name, and in it each literal is a node. Lines go from a leaf to the
 -- literals of the copy that hangs under it, the one to the closed pair's bold; a reduction is a dashed arrow from the leaf to its ancestor.
-use Rattle.std.specs.Prelude.{Bool, true, false, cond, List, [], ◌∷◌, ◌++◌, ℕ, zero, suc, ◌-◌, eqb, length, take, get_or}
+use Rattle.std.specs.Prelude.{Bool, true, false, List, [], ◌++◌, ℕ, zero, suc, eqb, length, take, get_or}
 use Rattle.words.specs.Steps.{step_of}
 use Rattle.words.specs.declared.Step.{Step}
 use Rattle.words.specs.declared.Step.TheVariants.{Reduction, Extension, Restart, Malformed}

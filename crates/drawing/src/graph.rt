@@ -30,7 +30,7 @@ fn label(
     from: usize,
 ) -> usize
     requires { length index.now ≡ 16896 }
-    ensures { Put out.old from (label_text (record { text = text.entry.now; index = index.now; file = file.now; bound = bound.now }) made clause literal) out.new result }
+    ensures { Put out.old from (label_text (record { text = text.now; index = index.now; file = file.now; bound = bound.now }) made clause literal) out.new result }
 {
     let a = put::bytes(out, from, b" [label=\"");
     let b = shown::literal_cut(text, index, file, clause, literal, out, a);
@@ -54,7 +54,7 @@ fn literal_line(
     from: usize,
 ) -> usize
     requires { length index.now ≡ 16896 }
-    ensures { Put out.old from (literal_line (record { text = text.entry.now; index = index.now; file = file.now; bound = bound.now }) number made clause literal) out.new result }
+    ensures { Put out.old from (literal_line (record { text = text.now; index = index.now; file = file.now; bound = bound.now }) number made clause literal) out.new result }
 {
     let a = put::bytes(out, from, b"    ");
     let b = node(number, literal, out, a);
@@ -74,7 +74,7 @@ fn literal_lines(
     from: usize,
 ) -> usize
     requires { length index.now ≡ 16896 }
-    ensures { Put out.old from (literal_lines (record { text = text.entry.now; index = index.now; file = file.now; bound = bound.now }) number made clause 0 size) out.new result }
+    ensures { Put out.old from (literal_lines (record { text = text.now; index = index.now; file = file.now; bound = bound.now }) number made clause 0 size) out.new result }
 {
     let mut at = from;
     let mut literal: u32 = 0;
@@ -118,7 +118,7 @@ fn copy(
     from: usize,
 ) -> usize
     requires { length index.now ≡ 16896 }
-    ensures { Put out.old from (copy_text (record { text = text.entry.now; index = index.now; file = file.now; bound = bound.now }) number made clause size) out.new result }
+    ensures { Put out.old from (copy_text (record { text = text.now; index = index.now; file = file.now; bound = bound.now }) number made clause size) out.new result }
 {
     let a = box_head(text, index, number, clause, out, from);
     let b = literal_lines(text, index, file, bound, number, made, clause, size, out, a);
@@ -230,7 +230,7 @@ fn extension(
     from: usize,
 ) -> usize
     requires { length index.now ≡ 16896 }
-    ensures { Put out.old from (copy_text (record { text = text.entry.now; index = index.now; file = file.now; bound = bound.now }) number made clause size ++ under_text leaf number entered size) out.new result }
+    ensures { Put out.old from (copy_text (record { text = text.now; index = index.now; file = file.now; bound = bound.now }) number made clause size ++ under_text leaf number entered size) out.new result }
 {
     let a = copy(
         text, index, file, bound, number, made, clause, size, out, from,
@@ -251,7 +251,7 @@ fn step(
     from: usize,
 ) -> usize
     requires { (length index.now ≡ 16896) × (done < 4294967295) }
-    ensures { Put out.old from (step_drawn (record { text = text.entry.now; index = index.now; file = file.now; bound = bound.now }) sizes.now question steps.now done (step_of (get_or steps.now done 0))) out.new result }
+    ensures { Put out.old from (step_drawn (record { text = text.now; index = index.now; file = file.now; bound = bound.now }) sizes.now question steps.now done (step_of (get_or steps.now done 0))) out.new result }
 {
     let leaf = leaf::leftmost(sizes, question, steps, done);
     match decode(leaf::at(steps, done)) {
@@ -292,7 +292,7 @@ fn steps_drawn(
     from: usize,
 ) -> usize
     requires { (length index.now ≡ 16896) × (length steps.now ≤ 199) }
-    ensures { Put out.old from (steps_drawn (record { text = text.entry.now; index = index.now; file = file.now; bound = bound.now }) sizes.now question steps.now 0 (length steps.now)) out.new result }
+    ensures { Put out.old from (steps_drawn (record { text = text.now; index = index.now; file = file.now; bound = bound.now }) sizes.now question steps.now 0 (length steps.now)) out.new result }
 {
     let mut at = from;
     let mut i = 0;
@@ -318,7 +318,7 @@ fn copies(
     from: usize,
 ) -> usize
     requires { (length index.now ≡ 16896) × (length steps.now ≤ 199) }
-    ensures { Put out.old from (copies_text (record { text = text.entry.now; index = index.now; file = file.now; bound = bound.now }) sizes.now question steps.now) out.new result }
+    ensures { Put out.old from (copies_text (record { text = text.now; index = index.now; file = file.now; bound = bound.now }) sizes.now question steps.now) out.new result }
 {
     let size = leaf::at(sizes, question);
     let a = copy(text, index, file, bound, 0, 0, question, size, out, from);
@@ -337,7 +337,7 @@ fn tableau(
     from: usize,
 ) -> usize
     requires { (length index.now ≡ 16896) × (length steps.now ≤ 199) }
-    ensures { Put out.old from (tableau_text (record { text = text.entry.now; index = index.now; file = file.now; bound = bound.now }) sizes.now question steps.now) out.new result }
+    ensures { Put out.old from (tableau_text (record { text = text.now; index = index.now; file = file.now; bound = bound.now }) sizes.now question steps.now) out.new result }
 {
     let a = put::bytes(
         out,
@@ -359,7 +359,7 @@ pub fn draw(
     from: usize,
 ) -> usize
     requires { length index.now ≡ 16896 }
-    ensures { Put out.old from (draw_text (record { text = text.entry.now; index = index.now; file = file.now; bound = bound.now }) steps.now) out.new result }
+    ensures { Put out.old from (draw_text (record { text = text.now; index = index.now; file = file.now; bound = bound.now }) steps.now) out.new result }
 {
     let mut sizes = [0u32; 512];
     shown::sizes(file, &mut sizes);

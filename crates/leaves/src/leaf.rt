@@ -8,7 +8,7 @@ use words::fields::wide;
 use words::steps::decode;
 
 // A leaf: the number of the step that hung it, its clause and its literal.
-#[derive(Drop)]
+#[derive(Clone, Copy)]
 pub enum Leaf {
     Open(u32, u32, u32),
     Nothing,

@@ -5,28 +5,25 @@ use Rattle.drawing.proofs.Graphs.{arrow_laws}
 
 ruleset all = (rules, arrow_laws)
 
-enum-known-to : tie.Need-enum-known-to
+enum-known-to : tie.Need-enum_known-to
 enum-known-to c = search all
 
-enum_told : tie.Need-enum-told
+enum_told : tie.Need-enum_told-1
 enum_told c = search all
 
-returns : tie.Need-returns
+returns : tie.Need-returns-in_default
 returns c = search all
 
-between-requires : tie.Need-between-requires
+between-requires : tie.Need-between-a-requires
 between-requires c κs = search all
-
-slice-aggregate-bytes : tie.Need-slice-aggregate-bytes
-slice-aggregate-bytes c = search all
 
 bytes-requires : tie.Need-bytes-requires
 bytes-requires c κs = search all
 
-same_length : tie.Need-same-length
+same_length : tie.Need-shape_of-out
 same_length c = search all
 
-returns-2 : tie.Need-returns-2
+returns-2 : tie.Need-returns
 returns-2 c = search all
 
 pub arrow_spec : {M : Type 1} → statement M
@@ -37,7 +34,6 @@ arrow_spec =
     enum_told
     returns
     between-requires
-    slice-aggregate-bytes
     bytes-requires
     same_length
     returns-2)

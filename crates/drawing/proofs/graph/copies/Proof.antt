@@ -13,4 +13,4 @@ copies_spec =
     (λ c κs. search all)
     (λ c κs. search all)
     (λ c. search all)
-    (λ c. copies_is _ _ _ _ c.before.before.before.before.before.before.before.before.at.ensures c.before.before.before.before.before.before.copy.ensures c.before.before.steps-drawn.ensures))
+    (λ c. copies_is _ _ _ _ c.at-size.ensures c.copy-a.ensures c.steps_drawn.ensures))

@@ -11,7 +11,6 @@ copy_spec =
     (tie.spec
     (λ c κs. search all)
     (λ c κs. search all)
-    (λ c. search all)
     (λ c κs. search all)
     (λ c. search all)
-    (λ c. copy_is _ _ _ _ _ c.before.before.before.before.before.before.before.before.before.before.before.box-head.ensures c.before.before.before.before.before.before.before.literal-lines.ensures c.before.before.bytes.ensures))
+    (λ c. copy_is _ _ _ _ _ c.box_head-a.ensures c.literal_lines-b.ensures c.bytes.ensures))

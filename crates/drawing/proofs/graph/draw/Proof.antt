@@ -16,4 +16,4 @@ draw_spec =
     (λ c κs. search all)
     (λ c κs. search all)
     (λ c. search all)
-    (λ c. draw_is _ _ (search rules) c.before.before.before.before.before.before.before.before.sizes2.ensures c.before.before.before.before.before.question.ensures c.before.before.before.before.front.ensures c.before.before.tableau.ensures))
+    (λ c. draw_is _ _ (search rules) c.sizes.ensures c.question.ensures c.front.ensures c.tableau.ensures))

@@ -12,4 +12,4 @@ extension_spec =
     (λ c κs. search all)
     (λ c κs. search all)
     (λ c. search all)
-    (λ c. then c.before.before.before.before.before.before.copy.ensures c.before.before.under.ensures))
+    (λ c. then c.copy-a.ensures c.under.ensures))

@@ -9,13 +9,9 @@ pub label_spec : {M : Type 1} → statement M
 label_spec =
     tie.close
     (tie.spec
-    (λ c. search all)
+    (λ c κs. search all)
+    (λ c κs. search all)
     (λ c κs. search all)
     (λ c κs. search all)
     (λ c. search all)
-    (λ c. search all)
-    (λ c κs. search all)
-    (λ c. search all)
-    (λ c κs. search all)
-    (λ c. search all)
-    (λ c. label_is _ _ _ _ c.before.before.before.before.before.before.before.before.before.before.before.before.before.before.before.before.before.bytes.ensures c.before.before.before.before.before.before.before.before.before.before.before.before.before.literal-cut.ensures c.before.before.before.before.before.before.before.told.ensures c.before.before.bytes2.ensures))
+    (λ c. label_is _ _ _ _ c.bytes-a.ensures c.literal_cut-b.ensures c.told-c.ensures c.bytes.ensures))

@@ -5,13 +5,13 @@ use Rattle.drawing.proofs.graph.line.Tie as tie
 
 ruleset all = (rules, line_is)
 
-between-requires : tie.Need-between-requires
+between-requires : tie.Need-between-a-requires
 between-requires c κs = search all
 
 stroke-requires : tie.Need-stroke-requires
 stroke-requires c κs = search all
 
-same_length : tie.Need-same-length
+same_length : tie.Need-shape_of-out
 same_length c = search all
 
 returns : tie.Need-returns

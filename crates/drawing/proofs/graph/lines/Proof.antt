@@ -7,28 +7,28 @@ use Rattle.drawing.proofs.graph.lines.Tie as tie
 
 ruleset all = (rules, lining_laws)
 
-abbrev invariant-loop : tie.invariant-loop
+abbrev invariant-loop : tie.invariant-loop-other
 invariant-loop number literal below entered size out₀ from at₀ other₀ out at other = Lining number literal below entered size out₀ from out at other
 
-abbrev decreases-loop : tie.decreases-loop
+abbrev decreases-loop : tie.decreases-loop-other
 decreases-loop number literal below entered size out₀ from at₀ other₀ out at other = size - other
 
-loop-holds : tie.Need-loop-init invariant-loop decreases-loop
+loop-holds : tie.Need-loop-other-init invariant-loop decreases-loop
 loop-holds c = search all
 
-line-requires : tie.Need-line-requires invariant-loop decreases-loop
+line-requires : tie.Need-line-at-requires invariant-loop decreases-loop
 line-requires c κs = search all
 
-add-other : tie.Need-overflow-add-other invariant-loop decreases-loop
+add-other : tie.Need-overflow_add-other invariant-loop decreases-loop
 add-other c = search all
 
-loop-less : tie.Need-loop-smaller invariant-loop decreases-loop
+loop-less : tie.Need-loop-other-smaller invariant-loop decreases-loop
 loop-less c = search all
 
-loop-again : tie.Need-loop-preserved invariant-loop decreases-loop
+loop-again : tie.Need-loop-other-preserved invariant-loop decreases-loop
 loop-again c = search all
 
-same_length : tie.Need-same-length invariant-loop decreases-loop
+same_length : tie.Need-shape_of-out invariant-loop decreases-loop
 same_length c = search all
 
 returns : tie.Need-returns invariant-loop decreases-loop

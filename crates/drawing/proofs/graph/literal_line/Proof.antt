@@ -9,9 +9,8 @@ pub literal_line_spec : {M : Type 1} → statement M
 literal_line_spec =
     tie.close
     (tie.spec
-    (λ c. search all)
     (λ c κs. search all)
     (λ c κs. search all)
     (λ c κs. search all)
     (λ c. search all)
-    (λ c. literal_line_is _ _ _ _ _ c.before.before.before.before.before.before.before.before.before.before.bytes.ensures c.before.before.before.before.before.before.node.ensures c.before.before.label.ensures))
+    (λ c. literal_line_is _ _ _ _ _ c.bytes-a.ensures c.node-b.ensures c.label.ensures))

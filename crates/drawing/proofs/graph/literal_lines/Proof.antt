@@ -6,10 +6,10 @@ use Rattle.drawing.proofs.graph.literal_lines.Tie as tie
 
 ruleset all = (rules, box_laws)
 
-abbrev invariant-loop : tie.invariant-loop
+abbrev invariant-loop : tie.invariant-loop-literal
 invariant-loop text index file bound number made clause size out₀ from at₀ literal₀ out at literal = Boxing (record { text = text; index = index; file = file; bound = bound }) number made clause size out₀ from out at literal
 
-abbrev decreases-loop : tie.decreases-loop
+abbrev decreases-loop : tie.decreases-loop-literal
 decreases-loop text index file bound number made clause size out₀ from at₀ literal₀ out at literal = size - literal
 
 pub literal_lines_spec : {M : Type 1} → statement M
@@ -22,6 +22,6 @@ literal_lines_spec =
     (λ c κs. search all)
     (λ c. search all)
     (λ c. search all)
-    (λ c. box_on c.before.before.before.before.before.loop.invariant c.before.before.before.before.loop-test.true c.before.before.literal-line.ensures)
+    (λ c. box_on c.loop-literal.invariant c.loop-literal-test.true c.literal_line-at.ensures)
     (λ c. search all)
-    (λ c. box_over c.before.loop.invariant c.loop-test.false))
+    (λ c. box_over c.loop-literal.invariant c.loop-literal-test.false))

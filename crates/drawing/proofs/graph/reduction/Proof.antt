@@ -5,22 +5,22 @@ use Rattle.drawing.proofs.graph.reduction.Tie as tie
 
 ruleset all = (rules, reduction_laws)
 
-enum-known-leaf : tie.Need-enum-known-leaf
+enum-known-leaf : tie.Need-enum_known-leaf
 enum-known-leaf c = search all
 
 arrow-requires : tie.Need-arrow-requires
 arrow-requires c κs = search all
 
-enum_told : tie.Need-enum-told
+enum_told : tie.Need-enum_told-1
 enum_told c = search all
 
-same_length : tie.Need-same-length
+same_length : tie.Need-shape_of-out
 same_length c = search all
 
-returns : tie.Need-returns
+returns : tie.Need-returns-in-Open
 returns c = search all
 
-returns-2 : tie.Need-returns-2
+returns-2 : tie.Need-returns-in-Nothing
 returns-2 c = search all
 
 pub reduction_spec : {M : Type 1} → statement M

@@ -7,10 +7,10 @@ use Rattle.drawing.proofs.graph.steps_drawn.Tie as tie
 
 ruleset all = (rules, drawing_laws)
 
-abbrev invariant-loop : tie.invariant-loop
+abbrev invariant-loop : tie.invariant-loop-i
 invariant-loop text index file bound sizes question steps out₀ from at₀ i₀ out at i = Drawing (record { text = text; index = index; file = file; bound = bound }) sizes question steps out₀ from out at i
 
-abbrev decreases-loop : tie.decreases-loop
+abbrev decreases-loop : tie.decreases-loop-i
 decreases-loop text index file bound sizes question steps out₀ from at₀ i₀ out at i = length steps - i
 
 pub steps_drawn_spec : {M : Type 1} → statement M
@@ -24,6 +24,6 @@ steps_drawn_spec =
     (λ c κs. search all)
     (λ c. search all)
     (λ c. search all)
-    (λ c. drawing_on c.before.before.before.before.before.loop.invariant c.before.before.before.before.loop-test.true c.before.before.step.ensures)
+    (λ c. drawing_on c.loop-i.invariant c.loop-i-test.true c.step-at.ensures)
     (λ c. search all)
-    (λ c. drawing_over c.before.loop.invariant c.loop-test.false))
+    (λ c. drawing_over c.loop-i.invariant c.loop-i-test.false))

@@ -9,10 +9,8 @@ pub tableau_spec : {M : Type 1} → statement M
 tableau_spec =
     tie.close
     (tie.spec
-    (λ c. search all)
     (λ c κs. search all)
     (λ c κs. search all)
-    (λ c. search all)
     (λ c κs. search all)
     (λ c. search all)
-    (λ c. tableau_is _ _ _ _ c.before.before.before.before.before.before.before.before.before.before.before.bytes.ensures c.before.before.before.before.before.before.before.copies.ensures c.before.before.bytes2.ensures))
+    (λ c. tableau_is _ _ _ _ c.bytes-a.ensures c.copies-b.ensures c.bytes.ensures))
