@@ -6,18 +6,18 @@ use Rattle.season.proofs.put_all.Statement.{statement}
 use Rattle.season.proofs.put_all.Tie as tie
 
 trailer-requires : tie.Need-trailer-requires
-trailer-requires c κs = (table_long _ c.before.before.before.before.before.before.before.requires.0, omega arith)
+trailer-requires c κs = (table_long _ c.requires.0, omega arith)
 
-slice-aggregate-own : tie.Need-slice-aggregate-own
-slice-aggregate-own c = own_counts c.before.before.before.before.before.before.before.before.before.before.args.table.now c.before.before.before.before.before.before.before.before.before.before.requires.0 (c.before.wide.ensures ∙ c.before.before.trailer.ensures)
+slice-aggregate-own : tie.Need-slice_bounds-own-end
+slice-aggregate-own c = own_counts c.args.table.now c.requires.0 (c.wide.ensures ∙ c.trailer.ensures)
 
 append-requires : tie.Need-append-requires
 append-requires c κs =
-    own_fits c.before.before.before.before.before.before.before.before.before.before.before.args.table.now c.before.before.before.before.before.before.before.before.before.before.before.requires.0 (c.before.before.wide.ensures ∙ c.before.before.before.trailer.ensures) c.before.before.before.before.file-buffer.result c.before.before.before.before.file-buffer.ensures
+    own_fits c.args.table.now c.requires.0 (c.wide.ensures ∙ c.trailer.ensures) c.file_buffer-file.result c.file_buffer-file.ensures
 
-ask-all-requires : tie.Need-ask-all-requires
+ask-all-requires : tie.Need-ask_all-requires
 ask-all-requires c κs =
-    (own_begins c.before.before.before.before.before.before.before.before.before.before.before.before.before.before.before.before.before.before.args.table.now c.before.before.before.before.before.before.before.before.before.before.before.before.before.before.before.before.before.before.requires.0 (c.before.before.before.before.before.before.before.before.before.wide.ensures ∙ c.before.before.before.before.before.before.before.before.before.before.trailer.ensures) c.before.before.before.before.before.before.before.before.before.before.before.file-buffer.result c.before.before.before.before.before.before.before.before.before.before.before.file-buffer.ensures (words_of _ c.before.before.before.before.before.before.before.before.before.before.before.before.before.before.before.before.before.shared-slice-known.given) c.before.before.before.before.before.before.append.ensures c.before.before.before.before.of_words.ensures, c.before.before.before.before.before.before.before.before.before.before.before.before.before.before.before.before.before.before.requires.1, c.before.before.before.before.before.before.before.before.before.before.before.before.before.before.before.before.before.before.requires.2)
+    (own_begins c.args.table.now c.requires.0 (c.wide.ensures ∙ c.trailer.ensures) c.file_buffer-file.result c.file_buffer-file.ensures (words_of _ c.shared_slice_known-1.given) c.append.ensures c.of_words-begun.ensures, c.requires.1, c.requires.2)
 
 pub put_all_spec : {M : Type 1} → statement M
 put_all_spec =
@@ -35,4 +35,4 @@ put_all_spec =
     (λ c. search rules)
     (λ c. search rules)
     (λ c. search rules)
-    (λ c. c.before.before.before.before.before.before.before.ask-all.ensures))
+    (λ c. c.ask_all.ensures))

@@ -9,10 +9,10 @@ use Rattle.season.proofs.ask.mixed_on.Tie as tie
 
 ruleset all = (rules, mix_turn, mix_done)
 
-abbrev invariant-loop : tie.invariant-loop
+abbrev invariant-loop : tie.invariant-loop-i
 invariant-loop begun words h₀ i₀ h i = mixed begun (bytes_of words) ≡ mixed h (bytes_of (drop i words))
 
-abbrev decreases-loop : tie.decreases-loop
+abbrev decreases-loop : tie.decreases-loop-i
 decreases-loop begun words h₀ i₀ h i = length words - i
 
 pub mixed_on_spec : {M : Type 1} → statement M

@@ -6,14 +6,14 @@ use Rattle.season.proofs.Memory.{alone_room, alone_judged}
 use Rattle.season.proofs.ask.stands_alone.Statement.{statement}
 use Rattle.season.proofs.ask.stands_alone.Tie as tie
 
-slice-aggregate-judge : tie.Need-slice-aggregate-judge
+slice-aggregate-judge : tie.Need-slice_bounds-judge-end
 slice-aggregate-judge c =
-    alone_room c.before.before.before.before.before.before.before.before.before.args.question.now c.before.before.before.before.before.before.before.clause-buffer.result c.before.before.before.before.before.before.before.before.before.requires c.before.before.before.before.before.before.before.clause-buffer.ensures c.before.before.before.before.before.append.ensures c.before.before.seal.ensures
+    alone_room c.args.question.now c.clause_buffer-file.result c.requires c.clause_buffer-file.ensures c.append.ensures c.seal.ensures
 
 returns : tie.Need-returns
 returns c =
     ap (λ (j : Judgement). eqb j.status 0)
-    (alone_judged c.before.before.before.before.before.before.before.before.before.before.before.args.question.now c.before.before.before.before.before.before.before.before.before.clause-buffer.result c.before.before.before.before.before.before.before.before.before.before.before.requires c.before.before.before.before.before.before.before.before.before.clause-buffer.ensures c.before.before.before.before.before.before.before.append.ensures c.before.before.before.before.seal.ensures c.before.judge.ensures)
+    (alone_judged c.args.question.now c.clause_buffer-file.result c.requires c.clause_buffer-file.ensures c.append.ensures c.seal.ensures c.judge-judged.ensures)
 
 pub stands_alone_spec : {M : Type 1} → statement M
 stands_alone_spec =
