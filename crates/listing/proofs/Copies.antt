@@ -20,7 +20,7 @@ use Rattle.table.proofs.FileEncoding.{clauses_append}
 use Rattle.rules.specs.Locality.{SameClauseAt, SameCopied}
 use Rattle.rules.specs.System.{◌∈◌, first, later}
 use Rattle.rules.proofs.Lists.{some_last}
-use Rattle.listing.specs.Behind.{copied_by, Listed, if_copied, copied_from, copied, listed, listed_table, listed_number}
+use Rattle.listing.specs.Behind.{copied_by, Listed, if_copied, copied_from, copied, listed_table, listed_number}
 
 each_left : (xs ys : List Clause) → Each ClauseWithin (xs ++ ys) → Each ClauseWithin xs
 unfolding Each
@@ -50,6 +50,7 @@ copied_some number literal (Extension clause other ∷ steps) (later m) = go (eq
 copied_some number literal (Reduction height ∷ steps) (later m) = copied_some number literal steps m
 copied_some number literal (Restart ∷ steps) (later m) = copied_some number literal steps m
 copied_some number literal (Malformed ∷ steps) (later m) = copied_some number literal steps m
+copied_some number literal [] m = elim m [ ]
 
 -- and where the count is not zero there is one
 pub some_copied : (number : ℕ) (steps : List Step) → 1 ≤ copied_by steps number → (literal : ℕ) × (Extension number literal ∈ steps)

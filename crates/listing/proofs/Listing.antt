@@ -34,6 +34,7 @@ at_head (later m) = inr m
 
 only_one : {A : Type 0} {x y : A} → x ∈ (y ∷ []) → x ≡ y
 only_one first = refl
+only_one {A = A} {y = y} (later m) = elim m [ ]
 
 -- numbers that ascend, from this one on
 unfoldable From : ℕ → List ℕ → Type 0
@@ -124,6 +125,7 @@ module _ (copies : ℕ → ℕ) where
       more (suc n) e f m = elim (at_head m) [ inl h ↦ inl (here n e h) | inr k ↦ weaken (f k) ]
 
 number_of : (ls : List Listed) (n : ℕ) → n ∈ numbers_in ls → (l : Listed) × (l ∈ ls) × (l.number ≡ n)
+number_of [] n m = elim m [ ]
 number_of (l ∷ ls) n first = (l, first, refl)
 number_of (l ∷ ls) n (later m) = let r = number_of ls n m in (r.0, later r.1, r.2)
 
@@ -213,6 +215,7 @@ module _ (S : Setting) where
 
   -- a clause number that they copy is the table's
   made_range : {x z : Tableau} {ss : List Step} → Made S x ss z → (i j : ℕ) → Extension i j ∈ ss → i < length (all_clauses S.table)
+  made_range as_it_stands i j k = elim k [ ]
   made_range (by_step {x} {y} {z} {s} {ss} e m) i j k = at (at_head k) (λ r. made_range m i j r)
     where
       of : {r : Step} → Does S x r y → r ≡ Extension i j → i < length (all_clauses S.table)

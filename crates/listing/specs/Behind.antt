@@ -1,5 +1,5 @@
 -- Order 7 (document 02): the clauses behind a proof: the question and each clause that a step copies, ascending, each once, with the number of its copies.
-use Rattle.std.specs.Prelude.{eqb, length, take, cond, List, [], ◌∷◌, ◌++◌, map, ℕ, zero, suc, ◌+◌}
+use Rattle.std.specs.Prelude.{eqb, length, take, cond, List, [], ◌∷◌, ◌++◌, map, ℕ, zero, suc}
 use Rattle.words.specs.Steps.{step_of, step_word}
 use Rattle.words.specs.declared.Step.{Step}
 use Rattle.words.specs.declared.Step.TheVariants.{Reduction, Extension, Restart, Malformed}

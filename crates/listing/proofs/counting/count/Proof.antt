@@ -7,10 +7,10 @@ use Rattle.listing.proofs.counting.count.Tie as tie
 
 ruleset all = (rules, count_laws)
 
-abbrev invariant-loop : tie.invariant-loop
+abbrev invariant-loop : tie.invariant-loop-i
 invariant-loop offered copies₀ i₀ copies i = Counting offered i copies
 
-abbrev decreases-loop : tie.decreases-loop
+abbrev decreases-loop : tie.decreases-loop-i
 decreases-loop offered copies₀ i₀ copies i = length offered - i
 
 pub count_spec : {M : Type 1} → statement M

@@ -10,7 +10,6 @@ line_spec =
     tie.close
     (tie.spec
     (λ c κs. search all)
-    (λ c. search all)
     (λ c κs. search all)
     (λ c κs. search all)
     (λ c κs. search all)
