@@ -14,4 +14,4 @@ status_spec =
     (λ c. search rules)
     (λ c. search rules)
     (λ c κs. search rules)
-    (λ c. let a = c.before.before.before.before.before.before.before.before.before.before.before.args in status_is a.file.now a.budget c.before.before.before.before.before.before.before.before.before.proof-buffer.result c.before.before.before.before.before.before.before.before.answer-buffer.result c.before.before.before.before.before.before.before.work-buffer.result c.before.before.before.before.before.before.before.before.before.proof-buffer.ensures c.before.before.before.before.before.before.before.before.answer-buffer.ensures c.before.before.before.before.before.before.before.work-buffer.ensures c.before.before.before.search.ensures.0))
+    (λ c. let a = c.args in status_is a.file.now a.budget c.proof_buffer-proof.result c.answer_buffer-answer.result c.work_buffer-work.result c.proof_buffer-proof.ensures c.answer_buffer-answer.ensures c.work_buffer-work.ensures c.search-outcome.ensures.0))

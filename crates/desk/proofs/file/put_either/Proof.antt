@@ -23,4 +23,4 @@ put_either_spec =
     (λ c κs. search rules)
     (λ c. search rules)
     (λ c. search rules)
-    (λ c. let a = c.before.before.before.before.before.before.before.before.before.before.before.before.args in let words = two_words a.day a.house c.before.before.before.before.before.before.before.before.before.constant.ensures c.before.before.before.before.before.before.before.before.constant2.ensures c.before.before.before.before.before.before.before.clause_word_lem.ensures c.before.before.before.before.before.before.before.before.before.before.literal_word_lem.ensures c.before.before.before.before.before.before.constant3.ensures c.before.before.before.before.before.constant4.ensures in record { next_place = ap (λ (ws : List ℕ). a.at + length ws) words; stands = c.before.before.append.ensures ∙ ap (λ (ws : List ℕ). behind a.file.now a.at ws) words }))
+    (λ c. let a = c.args in let words = two_words a.day a.house c.constant-day_word.ensures c.constant-house_word.ensures c.clause_word.ensures c.literal_word-sign.ensures c.constant.ensures c.constant-2.ensures in record { next_place = ap (λ (ws : List ℕ). a.at + length ws) words; stands = c.append.ensures ∙ ap (λ (ws : List ℕ). behind a.file.now a.at ws) words }))

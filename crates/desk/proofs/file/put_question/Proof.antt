@@ -9,12 +9,12 @@ pub put_question_spec : {M : Type 1} → statement M
 put_question_spec =
     tie.close
     (tie.spec
-    (λ c κs. search rules)
-    (λ c κs. search rules)
-    (λ c. search rules)
+    (λ c κs. search all)
+    (λ c κs. search all)
     (λ c. search all)
-    (λ c. search rules)
-    (λ c κs. search rules)
-    (λ c κs. search rules)
-    (λ c. search rules)
+    (λ c. search all)
+    (λ c. search all)
+    (λ c κs. search all)
+    (λ c κs. search all)
+    (λ c. search all)
     (λ c. search all))

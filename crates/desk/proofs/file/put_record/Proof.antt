@@ -9,11 +9,11 @@ pub put_record_spec : {M : Type 1} → statement M
 put_record_spec =
     tie.close
     (tie.spec
-    (λ c κs. search rules)
-    (λ c. search rules)
+    (λ c κs. search all)
     (λ c. search all)
-    (λ c. search rules)
-    (λ c κs. search rules)
-    (λ c κs. search rules)
-    (λ c. search rules)
+    (λ c. search all)
+    (λ c. search all)
+    (λ c κs. search all)
+    (λ c κs. search all)
+    (λ c. search all)
     (λ c. search all))

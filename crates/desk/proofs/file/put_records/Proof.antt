@@ -9,10 +9,10 @@ use Rattle.desk.proofs.file.put_records.Tie as tie
 
 ruleset all = (rules, write_begin)
 
-abbrev invariant-loop : tie.invariant-loop
+abbrev invariant-loop : tie.invariant-loop-i
 invariant-loop records file₀ at₀ i₀ file at i = Writes records file₀ at i file
 
-abbrev decreases-loop : tie.decreases-loop
+abbrev decreases-loop : tie.decreases-loop-i
 decreases-loop records file₀ at₀ i₀ file at i = length records - i
 
 pub put_records_spec : {M : Type 1} → statement M
@@ -26,13 +26,13 @@ put_records_spec =
     (λ c. search all)
     (λ c. search all)
     (λ c. search all)
-    (λ c. omega (arith, three_more c.before.before.before.before.loop.invariant (omega arith)))
+    (λ c. omega (arith, three_more c.loop-i.invariant (omega arith)))
     (λ c. search all)
     (λ c. search all)
-    (λ c. omega (arith, three_more c.before.before.before.before.before.loop.invariant (omega arith)))
-    (λ c κs. write_room c.before.before.before.before.before.loop.invariant (omega arith))
+    (λ c. omega (arith, three_more c.loop-i.invariant (omega arith)))
+    (λ c κs. write_room c.loop-i.invariant (omega arith))
     (λ c. search all)
     (λ c. search all)
-    (λ c. write_next c.before.before.before.before.before.before.before.before.loop.invariant (omega arith) c.before.before.put_record.ensures)
-    (λ c. file_long c.before.loop.invariant ∙ sym c.before.before.before.before.requires.long)
-    (λ c. write_done c.before.loop.invariant (omega arith)))
+    (λ c. write_next c.loop-i.invariant (omega arith) c.put_record-at.ensures)
+    (λ c. file_long c.loop-i.invariant ∙ sym c.requires.long)
+    (λ c. write_done c.loop-i.invariant (omega arith)))

@@ -20,4 +20,4 @@ put_single_spec =
     (λ c κs. search rules)
     (λ c. search rules)
     (λ c. search rules)
-    (λ c. let a = c.before.before.before.before.before.before.before.before.before.before.args in let words = single_words_lem a.day a.house c.before.before.before.before.before.before.constant.ensures c.before.before.before.before.before.constant2.ensures a.variables a.negative (search rules) c.before.before.before.before.before.before.before.before.clause_word_lem.ensures c.before.before.before.before.before.before.before.literal_word_lem.ensures in record { next_place = refl; stands = c.before.before.append.ensures ∙ ap (λ (ws : List ℕ). behind a.file.now a.at ws) words }))
+    (λ c. let a = c.args in let words = single_words_lem a.day a.house c.constant.ensures c.constant-2.ensures a.variables a.negative (search rules) c.clause_word.ensures c.literal_word.ensures in record { next_place = refl; stands = c.append.ensures ∙ ap (λ (ws : List ℕ). behind a.file.now a.at ws) words }))

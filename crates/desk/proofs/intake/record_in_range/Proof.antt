@@ -8,4 +8,10 @@ ruleset all = (rules, record_laws)
 pub record_in_range_spec : {M : Type 1} → statement M
 record_in_range_spec =
     tie.close
-    (tie.spec (λ c κs. search rules) (λ c. search all) (λ c κs. search rules) (λ c. search all) (λ c κs. search rules) (λ c. search all))
+    (tie.spec
+    (λ c κs. search all)
+    (λ c. search all)
+    (λ c κs. search all)
+    (λ c. search all)
+    (λ c κs. search all)
+    (λ c. search all))

@@ -1,3 +1,5 @@
+use mathlib.Core.Bool.{not}
+use mathlib.Core.Path.{ap}
 use lib.ListN.{length}
 use Prim.Native.Nat.{◌-◌}
 use borrow.Author.Rules.{rules}
@@ -8,10 +10,10 @@ use Rattle.desk.proofs.intake.words_in_range.Tie as tie
 
 ruleset all = (rules, look_laws)
 
-abbrev invariant-loop : tie.invariant-loop
+abbrev invariant-loop : tie.invariant-loop-i
 invariant-loop words i₀ i = Looks words i
 
-abbrev decreases-loop : tie.decreases-loop
+abbrev decreases-loop : tie.decreases-loop-i
 decreases-loop words i₀ i = length words - i
 
 pub words_in_range_spec : {M : Type 1} → statement M
@@ -34,5 +36,5 @@ words_in_range_spec =
     (λ c. search all)
     (λ c. search all)
     (λ c. search all)
-    (λ c. look_on c.before.before.before.before.before.before.loop.invariant (omega arith) c.before.record-in-range.ensures c.if1.false)
+    (λ c. look_on c.loop-i.invariant (omega arith) c.record_in_range.ensures (ap not c.if-not-record_in_range.false))
     (λ c. search all))
