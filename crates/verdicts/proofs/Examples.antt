@@ -4,9 +4,8 @@ use mathlib.Core.List.{List, [], ◌∷◌}
 use mathlib.Core.Path.{◌≡◌, refl}
 use Prim.Native.Nat.{ℕ}
 use Rattle.words.specs.Steps.{step_of}
-use Rattle.leaves.specs.Leaves.{opens, other, hung, started, open_after, leftmost, hung_under, above, ancestor}
+use Rattle.leaves.specs.Leaves.{opens, other, hung, started, open_after, hung_under, above, ancestor}
 use Rattle.verdicts.specs.Verdicts.{entered_leaf, partner, fitting}
-use Rattle.leaves.specs.declared.leaf.Leaf.{Leaf}
 use Rattle.leaves.specs.declared.leaf.Leaf.TheVariants.{Open, Nothing}
 
 unfoldable opened : Unit {0}

@@ -1,12 +1,11 @@
 -- What is said of a proof, put together of parts: one law for each outcome, with premises as the code has them.
-use mathlib.Core.Bool.{Bool, true, false, cond}
-use mathlib.Core.List.{List, [], ◌∷◌, ◌++◌}
-use mathlib.Core.Path.{◌≡◌, refl, sym, ap, ◌∙◌}
-use Prim.Native.Nat.{ℕ, zero, suc, ◌+◌, ◌-◌, ◌≤◌, ◌<◌}
+use mathlib.Core.Bool.{Bool, true, false}
+use mathlib.Core.List.{List, ◌++◌}
+use mathlib.Core.Path.{◌≡◌, refl, ◌∙◌}
+use Prim.Native.Nat.{ℕ, zero, suc, ◌+◌, ◌≤◌, ◌<◌}
 use native.Mathlib.Numerals.{add-one}
-use native.Mathlib.Omega.{arith}
 use borrow.Author.Tests.{eq-eqb, ne_eqb, lt-ltb, le-ltb}
-use lib.Dec.{eqb, ltb}
+use lib.Dec.{eqb}
 use lib.ListN.{length, take, drop, get_or}
 use Rattle.words.specs.Fields.{sign_of, symbol_of, arity_of}
 use Rattle.words.specs.Steps.{step_of}
@@ -21,7 +20,6 @@ use Rattle.assistant.specs.Place.{position_of, figure_text, excerpt_text}
 use Rattle.written_proofs.specs.Steps.{names_of, steps_text}
 use Rattle.written_proofs.specs.declared.read.Awaited.{Awaited}
 use Rattle.written_proofs.specs.declared.read.Awaited.TheVariants.{Step as step, Height, Clause, Literal}
-use Rattle.naming.specs.Index.{clause_places}
 use Rattle.leaves.specs.Leaves.{leftmost, ancestor}
 use Rattle.leaves.specs.Shown.{Source, sizes_in, question_in, literal_word_in, literal_shown, name_cut}
 use Rattle.leaves.specs.Bound.{copy_number, told_text}

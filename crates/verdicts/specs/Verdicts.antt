@@ -1,6 +1,6 @@
 -- What is said of a partner's proof: accepted; or the first step that is wrong, with its leaf and the literal that it is closed against, each as its
 -- clause has it, by the clause's name and number, and under what the steps before have bound.
-use Rattle.std.specs.Prelude.{Bool, true, false, cond, not, ◌&&◌, List, [], ◌∷◌, ◌++◌, ℕ, zero, suc, ◌+◌, eqb, ltb, length, take, drop, get_or}
+use Rattle.std.specs.Prelude.{Bool, true, false, cond, not, ◌&&◌, List, [], ◌++◌, ℕ, zero, suc, ◌+◌, eqb, ltb, take, drop, get_or}
 use Rattle.words.specs.Fields.{sign_of, symbol_of, arity_of}
 use Rattle.words.specs.Steps.{step_of}
 use Rattle.words.specs.declared.Step.{Step}

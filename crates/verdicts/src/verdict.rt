@@ -65,7 +65,7 @@ fn clause(
     from: usize,
 ) -> usize
     requires { length index.now ≡ 16896 }
-    ensures { Put out.old from (clause_shown (record { text = text.entry.now; index = index.now; file = file.now; bound = bound.now }) number) out.new result }
+    ensures { Put out.old from (clause_shown (record { text = text.now; index = index.now; file = file.now; bound = bound.now }) number) out.new result }
 {
     let a = shown::name_cut(text, index, number, out, from);
     let b = put::field(out, a, b" (clause ", number);
@@ -85,7 +85,7 @@ fn of(
     from: usize,
 ) -> usize
     requires { length index.now ≡ 16896 }
-    ensures { Put out.old from (of_text (record { text = text.entry.now; index = index.now; file = file.now; bound = bound.now }) number own literal) out.new result }
+    ensures { Put out.old from (of_text (record { text = text.now; index = index.now; file = file.now; bound = bound.now }) number own literal) out.new result }
 {
     let a = put::field(out, from, b", literal ", literal);
     let b = put::bytes(out, a, b" of ");
@@ -107,7 +107,7 @@ fn there(
     from: usize,
 ) -> usize
     requires { length index.now ≡ 16896 }
-    ensures { Put out.old from (there_text (record { text = text.entry.now; index = index.now; file = file.now; bound = bound.now }) steps.now number own literal) out.new result }
+    ensures { Put out.old from (there_text (record { text = text.now; index = index.now; file = file.now; bound = bound.now }) steps.now number own literal) out.new result }
 {
     let copy = bound::copy_number(steps, number);
     bound::told(
@@ -138,7 +138,7 @@ fn leaf_line(
     from: usize,
 ) -> usize
     requires { length index.now ≡ 16896 }
-    ensures { Put out.old from (leaf_text (record { text = text.entry.now; index = index.now; file = file.now; bound = bound.now }) steps.now label.now leaf) out.new result }
+    ensures { Put out.old from (leaf_text (record { text = text.now; index = index.now; file = file.now; bound = bound.now }) steps.now label.now leaf) out.new result }
 {
     let a = put::bytes(out, from, label);
     let Leaf::Open(number, own, literal) = leaf else {
@@ -188,7 +188,7 @@ fn partner_line(
     from: usize,
 ) -> usize
     requires { length index.now ≡ 16896 }
-    ensures { Put out.old from (leaf_text (record { text = text.entry.now; index = index.now; file = file.now; bound = bound.now }) steps.now (partner_label (step_of w)) leaf) out.new result }
+    ensures { Put out.old from (leaf_text (record { text = text.now; index = index.now; file = file.now; bound = bound.now }) steps.now (partner_label (step_of w)) leaf) out.new result }
 {
     match decode(w) {
         Step::Reduction(_) => leaf_line(
@@ -389,7 +389,7 @@ fn pair_lines(
     from: usize,
 ) -> usize
     requires { length index.now ≡ 16896 }
-    ensures { Put out.old from (pair_shown (record { text = text.entry.now; index = index.now; file = file.now; bound = bound.now }) steps.now (step_of w) leaf to) out.new result }
+    ensures { Put out.old from (pair_shown (record { text = text.now; index = index.now; file = file.now; bound = bound.now }) steps.now (step_of w) leaf to) out.new result }
 {
     let a = leaf_line(text, index, file, bound, steps, b"leaf: ", leaf, out, from);
     partner_line(text, index, file, bound, steps, w, to, out, a)
@@ -412,7 +412,7 @@ fn wrong_step(
     from: usize,
 ) -> usize
     requires { (length index.now ≡ 16896) × (done < 4294967295) }
-    ensures { Put out.old from (wrong_step (record { text = text.entry.now; index = index.now; file = file.now; bound = bound.now }) steps.now limit status done (step_of w) leaf to) out.new result }
+    ensures { Put out.old from (wrong_step (record { text = text.now; index = index.now; file = file.now; bound = bound.now }) steps.now limit status done (step_of w) leaf to) out.new result }
 {
     let a = head(text, index, steps, status, done, out, from);
     let b = pair_lines(text, index, file, bound, steps, w, leaf, to, out, a);
@@ -432,7 +432,7 @@ fn open(
     from: usize,
 ) -> usize
     requires { length index.now ≡ 16896 }
-    ensures { Put out.old from (open_text (record { text = text.entry.now; index = index.now; file = file.now; bound = bound.now }) steps.now leaf done) out.new result }
+    ensures { Put out.old from (open_text (record { text = text.now; index = index.now; file = file.now; bound = bound.now }) steps.now leaf done) out.new result }
 {
     let a = put::field(
         out,
@@ -458,7 +458,7 @@ fn refused_with(
     from: usize,
 ) -> usize
     requires { (length index.now ≡ 16896) × (done < 4294967295) }
-    ensures { Put out.old from (refused_with (record { text = text.entry.now; index = index.now; file = file.now; bound = bound.now }) sizes.now (question_in file.now) steps.now limit status done) out.new result }
+    ensures { Put out.old from (refused_with (record { text = text.now; index = index.now; file = file.now; bound = bound.now }) sizes.now (question_in file.now) steps.now limit status done) out.new result }
 {
     let question = shown::question(file);
     let leaf = leaf::leftmost(sizes, question, steps, done);
@@ -486,7 +486,7 @@ pub fn refused(
     from: usize,
 ) -> usize
     requires { (length index.now ≡ 16896) × (place < 4294967295) }
-    ensures { Put out.old from (refused_text (record { text = text.entry.now; index = index.now; file = file.now; bound = bound.now }) steps.now limit status place) out.new result }
+    ensures { Put out.old from (refused_text (record { text = text.now; index = index.now; file = file.now; bound = bound.now }) steps.now limit status place) out.new result }
 {
     let mut sizes = [0u32; 512];
     shown::sizes(file, &mut sizes);

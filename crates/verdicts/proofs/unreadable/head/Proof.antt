@@ -5,28 +5,19 @@ use Rattle.verdicts.proofs.unreadable.head.Tie as tie
 
 ruleset all = (rules, where_is)
 
-bytes-requires : tie.Need-bytes-requires
+bytes-requires : tie.Need-bytes-a-requires
 bytes-requires c κs = search all
 
-slice-aggregate-labelled : tie.Need-slice-aggregate-labelled
-slice-aggregate-labelled c = search all
-
-labelled-requires : tie.Need-labelled-requires
+labelled-requires : tie.Need-labelled-b-requires
 labelled-requires c κs = search all
 
-slice-aggregate-labelled-2 : tie.Need-slice-aggregate-labelled-2
-slice-aggregate-labelled-2 c = search all
-
-labelled-requires-2 : tie.Need-labelled-requires-2
+labelled-requires-2 : tie.Need-labelled-c-requires
 labelled-requires-2 c κs = search all
 
-slice-aggregate-bytes : tie.Need-slice-aggregate-bytes
-slice-aggregate-bytes c = search all
-
-bytes-requires-2 : tie.Need-bytes-requires-2
+bytes-requires-2 : tie.Need-bytes-requires
 bytes-requires-2 c κs = search all
 
-same_length : tie.Need-same-length
+same_length : tie.Need-shape_of-out
 same_length c = search all
 
 returns : tie.Need-returns
@@ -37,11 +28,8 @@ head_spec =
     tie.close
     (tie.spec
     bytes-requires
-    slice-aggregate-labelled
     labelled-requires
-    slice-aggregate-labelled-2
     labelled-requires-2
-    slice-aggregate-bytes
     bytes-requires-2
     same_length
     returns)

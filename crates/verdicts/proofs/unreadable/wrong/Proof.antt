@@ -5,25 +5,25 @@ use Rattle.verdicts.proofs.unreadable.wrong.Tie as tie
 
 ruleset all = (rules, unreadable_is)
 
-front-bytes-requires : tie.Need-front-bytes-requires
+front-bytes-requires : tie.Need-front_bytes-before-requires
 front-bytes-requires c κs = search all
 
-after-requires : tie.Need-after-requires
+after-requires : tie.Need-after-rest-requires
 after-requires c κs = search all
 
-locate-requires : tie.Need-locate-requires
+locate-requires : tie.Need-locate-p-requires
 locate-requires c κs = search all
 
-head-requires : tie.Need-head-requires
+head-requires : tie.Need-head-a-requires
 head-requires c κs = search all
 
-excerpt-requires : tie.Need-excerpt-requires
+excerpt-requires : tie.Need-excerpt-b-requires
 excerpt-requires c κs = search all
 
 expected-requires : tie.Need-expected-requires
 expected-requires c κs = search all
 
-same_length : tie.Need-same-length
+same_length : tie.Need-shape_of-out
 same_length c = search all
 
 returns : tie.Need-returns

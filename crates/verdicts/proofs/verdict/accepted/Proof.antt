@@ -5,54 +5,42 @@ use Rattle.verdicts.proofs.verdict.accepted.Tie as tie
 
 ruleset all = (rules, accepted_laws)
 
-slice-aggregate-bytes : tie.Need-slice-aggregate-bytes
-slice-aggregate-bytes c = search all
-
-bytes-requires : tie.Need-bytes-requires
+bytes-requires : tie.Need-bytes-a-requires
 bytes-requires c κs = search all
 
 cost-requires : tie.Need-cost-requires
 cost-requires c κs = search all
 
-same_length : tie.Need-same-length
+same_length : tie.Need-shape_of-out-then-disjuncts-eq1
 same_length c = search all
 
-returns : tie.Need-returns
+returns : tie.Need-returns-then-disjuncts-eq1
 returns c = search all
 
-slice-aggregate-field : tie.Need-slice-aggregate-field
-slice-aggregate-field c = search all
-
-field-requires : tie.Need-field-requires
+field-requires : tie.Need-field-a-requires
 field-requires c κs = search all
 
-slice-aggregate-bytes-2 : tie.Need-slice-aggregate-bytes-2
-slice-aggregate-bytes-2 c = search all
-
-bytes-requires-2 : tie.Need-bytes-requires-2
+bytes-requires-2 : tie.Need-bytes-b-requires
 bytes-requires-2 c κs = search all
 
 cost-requires-2 : tie.Need-cost-requires-2
 cost-requires-2 c κs = search all
 
-same-length-2 : tie.Need-same-length-2
+same-length-2 : tie.Need-shape_of-out
 same-length-2 c = search all
 
-returns-2 : tie.Need-returns-2
+returns-2 : tie.Need-returns
 returns-2 c = search all
 
 pub accepted_spec : {M : Type 1} → statement M
 accepted_spec =
     tie.close
     (tie.spec
-    slice-aggregate-bytes
     bytes-requires
     cost-requires
     same_length
     returns
-    slice-aggregate-field
     field-requires
-    slice-aggregate-bytes-2
     bytes-requires-2
     cost-requires-2
     same-length-2

@@ -5,40 +5,37 @@ use Rattle.verdicts.proofs.Saying.{against_laws}
 
 ruleset all = (rules, against_laws)
 
-enum-known-to : tie.Need-enum-known-to
+enum-known-to : tie.Need-enum_known-to
 enum-known-to c = search all
 
-enum_told : tie.Need-enum-told
+enum_told : tie.Need-enum_told-1
 enum_told c = search all
-
-slice-aggregate-bytes : tie.Need-slice-aggregate-bytes
-slice-aggregate-bytes c = search all
 
 bytes-requires : tie.Need-bytes-requires
 bytes-requires c κs = search all
 
-same_length : tie.Need-same-length
+same_length : tie.Need-shape_of-out-in_default
 same_length c = search all
 
-returns : tie.Need-returns
+returns : tie.Need-returns-in_default
 returns c = search all
 
-literal-word-requires : tie.Need-literal-word-requires
+literal-word-requires : tie.Need-literal_word-requires
 literal-word-requires c κs = search all
 
-literal-word-requires-2 : tie.Need-literal-word-requires-2
+literal-word-requires-2 : tie.Need-literal_word-requires-2
 literal-word-requires-2 c κs = search all
 
-fitting-requires : tie.Need-fitting-requires
+fitting-requires : tie.Need-fitting-fits-requires
 fitting-requires c κs = search all
 
 pair-requires : tie.Need-pair-requires
 pair-requires c κs = search all
 
-same-length-2 : tie.Need-same-length-2
+same-length-2 : tie.Need-shape_of-out
 same-length-2 c = search all
 
-returns-2 : tie.Need-returns-2
+returns-2 : tie.Need-returns
 returns-2 c = search all
 
 pub against_spec : {M : Type 1} → statement M
@@ -47,7 +44,6 @@ against_spec =
     (tie.spec
     enum-known-to
     enum_told
-    slice-aggregate-bytes
     bytes-requires
     same_length
     returns

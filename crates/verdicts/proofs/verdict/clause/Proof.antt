@@ -5,19 +5,16 @@ use Rattle.verdicts.proofs.verdict.clause.Tie as tie
 
 ruleset all = (rules, clause_shown_is)
 
-name-cut-requires : tie.Need-name-cut-requires
+name-cut-requires : tie.Need-name_cut-a-requires
 name-cut-requires c κs = search all
 
-slice-aggregate-field : tie.Need-slice-aggregate-field
-slice-aggregate-field c = search all
-
-field-requires : tie.Need-field-requires
+field-requires : tie.Need-field-b-requires
 field-requires c κs = search all
 
 byte-requires : tie.Need-byte-requires
 byte-requires c κs = search all
 
-same_length : tie.Need-same-length
+same_length : tie.Need-shape_of-out
 same_length c = search all
 
 returns : tie.Need-returns
@@ -28,7 +25,6 @@ clause_spec =
     tie.close
     (tie.spec
     name-cut-requires
-    slice-aggregate-field
     field-requires
     byte-requires
     same_length

@@ -5,19 +5,13 @@ use Rattle.verdicts.proofs.verdict.cost.Tie as tie
 
 ruleset all = (rules, cost_is)
 
-slice-aggregate-field : tie.Need-slice-aggregate-field
-slice-aggregate-field c = search all
-
-field-requires : tie.Need-field-requires
+field-requires : tie.Need-field-a-requires
 field-requires c κs = search all
-
-slice-aggregate-bytes : tie.Need-slice-aggregate-bytes
-slice-aggregate-bytes c = search all
 
 bytes-requires : tie.Need-bytes-requires
 bytes-requires c κs = search all
 
-same_length : tie.Need-same-length
+same_length : tie.Need-shape_of-out
 same_length c = search all
 
 returns : tie.Need-returns
@@ -27,9 +21,7 @@ pub cost_spec : {M : Type 1} → statement M
 cost_spec =
     tie.close
     (tie.spec
-    slice-aggregate-field
     field-requires
-    slice-aggregate-bytes
     bytes-requires
     same_length
     returns)

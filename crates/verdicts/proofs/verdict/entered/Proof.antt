@@ -8,10 +8,10 @@ ruleset all = (rules, entered_laws)
 at-requires : tie.Need-at-requires
 at-requires c κs = search all
 
-returns : tie.Need-returns
+returns : tie.Need-returns-then-literal-at
 returns c = search all
 
-returns-2 : tie.Need-returns-2
+returns-2 : tie.Need-returns
 returns-2 c = search all
 
 pub entered_spec : {M : Type 1} → statement M

@@ -11,7 +11,7 @@ sign-requires c κs = search all
 sign-requires-2 : tie.Need-sign-requires-2
 sign-requires-2 c κs = search all
 
-returns : tie.Need-returns
+returns : tie.Need-returns-then-sign
 returns c = search all
 
 symbol-requires : tie.Need-symbol-requires
@@ -20,7 +20,7 @@ symbol-requires c κs = search all
 symbol-requires-2 : tie.Need-symbol-requires-2
 symbol-requires-2 c κs = search all
 
-returns-2 : tie.Need-returns-2
+returns-2 : tie.Need-returns-then-symbol
 returns-2 c = search all
 
 arity-requires : tie.Need-arity-requires
@@ -29,7 +29,7 @@ arity-requires c κs = search all
 arity-requires-2 : tie.Need-arity-requires-2
 arity-requires-2 c κs = search all
 
-returns-3 : tie.Need-returns-3
+returns-3 : tie.Need-returns
 returns-3 c = search all
 
 pub fitting_spec : {M : Type 1} → statement M

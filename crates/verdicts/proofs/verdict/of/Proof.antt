@@ -5,25 +5,19 @@ use Rattle.verdicts.proofs.verdict.of.Tie as tie
 
 ruleset all = (rules, of_is)
 
-slice-aggregate-field : tie.Need-slice-aggregate-field
-slice-aggregate-field c = search all
-
-field-requires : tie.Need-field-requires
+field-requires : tie.Need-field-a-requires
 field-requires c κs = search all
 
-slice-aggregate-bytes : tie.Need-slice-aggregate-bytes
-slice-aggregate-bytes c = search all
-
-bytes-requires : tie.Need-bytes-requires
+bytes-requires : tie.Need-bytes-b-requires
 bytes-requires c κs = search all
 
-clause-requires : tie.Need-clause-requires
+clause-requires : tie.Need-clause-c-requires
 clause-requires c κs = search all
 
 hung-requires : tie.Need-hung-requires
 hung-requires c κs = search all
 
-same_length : tie.Need-same-length
+same_length : tie.Need-shape_of-out
 same_length c = search all
 
 returns : tie.Need-returns
@@ -33,9 +27,7 @@ pub of_spec : {M : Type 1} → statement M
 of_spec =
     tie.close
     (tie.spec
-    slice-aggregate-field
     field-requires
-    slice-aggregate-bytes
     bytes-requires
     clause-requires
     hung-requires

@@ -7,11 +7,8 @@ pub open_spec : {M : Type 1} → statement M
 open_spec =
     tie.close
     (tie.spec
-    (λ c. search rules)
+    (λ c κs. search rules)
+    (λ c κs. search rules)
     (λ c κs. search rules)
     (λ c. search rules)
-    (λ c κs. search rules)
-    (λ c. search rules)
-    (λ c κs. search rules)
-    (λ c. search rules)
-    (λ c. open_text_is _ _ _ _ c.before.before.before.before.before.before.before.before.before.before.before.before.field.ensures c.before.before.before.before.before.before.before.bytes.ensures c.before.before.leaf-line.ensures))
+    (λ c. open_text_is _ _ _ _ c.field-a.ensures c.bytes-b.ensures c.leaf_line.ensures))

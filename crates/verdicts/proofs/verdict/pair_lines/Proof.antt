@@ -7,8 +7,7 @@ pub pair_lines_spec : {M : Type 1} → statement M
 pair_lines_spec =
     tie.close
     (tie.spec
-    (λ c. search rules)
     (λ c κs. search rules)
     (λ c κs. search rules)
     (λ c. search rules)
-    (λ c. pair_lines_is _ _ _ _ _ c.before.before.before.before.before.before.leaf-line.ensures c.before.before.partner-line.ensures))
+    (λ c. pair_lines_is _ _ _ _ _ c.leaf_line-a.ensures c.partner_line.ensures))

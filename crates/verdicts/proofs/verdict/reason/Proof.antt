@@ -8,13 +8,13 @@ ruleset all = (rules, reason_laws)
 why-requires : tie.Need-why-requires
 why-requires c κs = search all
 
-same_length : tie.Need-same-length
+same_length : tie.Need-shape_of-out-then-status-eq13
 same_length c = search all
 
-returns : tie.Need-returns
+returns : tie.Need-returns-then-status-eq13
 returns c = search all
 
-returns-2 : tie.Need-returns-2
+returns-2 : tie.Need-returns
 returns-2 c = search all
 
 pub reason_spec : {M : Type 1} → statement M

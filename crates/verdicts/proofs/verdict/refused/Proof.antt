@@ -12,4 +12,4 @@ refused_spec =
     (λ c. search rules)
     (λ c κs. search rules)
     (λ c. search rules)
-    (λ c. refused_is _ _ _ _ _ (search rules) c.before.before.before.before.before.before.sizes2.ensures c.before.before.refused-with.ensures))
+    (λ c. refused_is _ _ _ _ _ (search rules) c.sizes.ensures c.refused_with.ensures))

@@ -11,22 +11,19 @@ wide-requires c κs = search all
 rest-requires : tie.Need-rest-requires
 rest-requires c κs = search all
 
-front-requires : tie.Need-front-requires
+front-requires : tie.Need-front-own-requires
 front-requires c κs = search all
 
-rest-requires-2 : tie.Need-rest-requires-2
+rest-requires-2 : tie.Need-rest-places-requires
 rest-requires-2 c κs = search all
 
-slice-aggregate-bytes : tie.Need-slice-aggregate-bytes
-slice-aggregate-bytes c = search all
-
-bytes-requires : tie.Need-bytes-requires
+bytes-requires : tie.Need-bytes-a-requires
 bytes-requires c κs = search all
 
 proof-requires : tie.Need-proof-requires
 proof-requires c κs = search all
 
-same_length : tie.Need-same-length
+same_length : tie.Need-shape_of-out
 same_length c = search all
 
 returns : tie.Need-returns
@@ -40,7 +37,6 @@ step_shown_spec =
     rest-requires
     front-requires
     rest-requires-2
-    slice-aggregate-bytes
     bytes-requires
     proof-requires
     same_length

@@ -8,8 +8,6 @@ there_spec =
     tie.close
     (tie.spec
     (λ c κs. search rules)
-    (λ c. search rules)
-    (λ c. search rules)
     (λ c κs. search rules)
     (λ c. search rules)
-    (λ c. there_is _ _ _ _ _ c.before.before.before.before.before.before.copy-number.ensures c.before.before.told.ensures))
+    (λ c. there_is _ _ _ _ _ c.copy_number-copy.ensures c.told.ensures))

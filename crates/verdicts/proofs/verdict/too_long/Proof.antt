@@ -5,16 +5,13 @@ use Rattle.verdicts.proofs.verdict.too_long.Tie as tie
 
 ruleset all = (rules, too_long_is)
 
-slice-aggregate-bytes : tie.Need-slice-aggregate-bytes
-slice-aggregate-bytes c = search all
-
-bytes-requires : tie.Need-bytes-requires
+bytes-requires : tie.Need-bytes-a-requires
 bytes-requires c κs = search all
 
 cost-requires : tie.Need-cost-requires
 cost-requires c κs = search all
 
-same_length : tie.Need-same-length
+same_length : tie.Need-shape_of-out
 same_length c = search all
 
 returns : tie.Need-returns
@@ -24,7 +21,6 @@ pub too_long_spec : {M : Type 1} → statement M
 too_long_spec =
     tie.close
     (tie.spec
-    slice-aggregate-bytes
     bytes-requires
     cost-requires
     same_length

@@ -5,31 +5,28 @@ use Rattle.verdicts.proofs.Saying.{why_laws}
 
 ruleset all = (rules, why_laws)
 
-enum-known-leaf : tie.Need-enum-known-leaf
+enum-known-leaf : tie.Need-enum_known-leaf
 enum-known-leaf c = search all
 
 against-requires : tie.Need-against-requires
 against-requires c κs = search all
 
-enum_told : tie.Need-enum-told
+enum_told : tie.Need-enum_told-1
 enum_told c = search all
-
-slice-aggregate-bytes : tie.Need-slice-aggregate-bytes
-slice-aggregate-bytes c = search all
 
 bytes-requires : tie.Need-bytes-requires
 bytes-requires c κs = search all
 
-same_length : tie.Need-same-length
+same_length : tie.Need-shape_of-out-in-Open
 same_length c = search all
 
-returns : tie.Need-returns
+returns : tie.Need-returns-in-Open
 returns c = search all
 
-same-length-2 : tie.Need-same-length-2
+same-length-2 : tie.Need-shape_of-out-in-Nothing
 same-length-2 c = search all
 
-returns-2 : tie.Need-returns-2
+returns-2 : tie.Need-returns-in-Nothing
 returns-2 c = search all
 
 pub why_spec : {M : Type 1} → statement M
@@ -39,7 +36,6 @@ why_spec =
     enum-known-leaf
     against-requires
     enum_told
-    slice-aggregate-bytes
     bytes-requires
     same_length
     returns

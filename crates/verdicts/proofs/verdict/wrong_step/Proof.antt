@@ -11,4 +11,4 @@ wrong_step_spec =
     (λ c κs. search rules)
     (λ c κs. search rules)
     (λ c. search rules)
-    (λ c. wrong_step_is _ _ _ _ _ _ _ _ c.before.before.before.before.before.before.before.before.before.before.head.ensures c.before.before.before.before.before.before.pair-lines.ensures c.before.before.reason.ensures))
+    (λ c. wrong_step_is _ _ _ _ _ _ _ _ c.head-a.ensures c.pair_lines-b.ensures c.reason.ensures))
