@@ -20,7 +20,7 @@ use Rattle.rules.specs.Machinery.Play.{check, search_for}
 use Rattle.rules.proofs.ClosedTableaux.{larger_bound, larger_table}
 use Rattle.rules.proofs.Demands.{larger_budget}
 use Rattle.hukolearu.specs.Door.{first_fault, checks}
-use Rattle.hukolearu.specs.Calls.{Given, room_of, refused_by, search_given, check_given, SearchAsked, search_inputs, search_setting, search_call, CheckAsked, check_inputs, check_setting, check_call}
+use Rattle.hukolearu.specs.Calls.{room_of, refused_by, search_given, check_given, SearchAsked, search_inputs, search_setting, search_call, CheckAsked, check_inputs, check_setting, check_call}
 use Rattle.hukolearu.specs.Says.{SearchAccepted, CheckAccepted, CheckSays}
 use Rattle.hukolearu.proofs.Accepts.{asks_negative}
 use Rattle.hukolearu.proofs.DoorLaws.{inside}

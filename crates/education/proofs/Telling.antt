@@ -21,7 +21,7 @@ use Rattle.table.proofs.Desks.{seen_within}
 use Rattle.table.proofs.FileEncoding.{file_accepted, file_within, file_decoded}
 use Rattle.slim.proofs.Telling.{file_long}
 use Rattle.hukolearu.specs.Door.{Fault, first_fault, checks, behind, Admitted}
-use Rattle.hukolearu.specs.Calls.{Given, refused_by, SearchAsked, inputs_by, search_by, search_call, CheckAsked, check_inputs, check_by, check_call}
+use Rattle.hukolearu.specs.Calls.{Given, refused_by, SearchAsked, inputs_by, search_by, CheckAsked, check_inputs, check_by}
 use Rattle.hukolearu.specs.declared.door.Inputs.{Inputs}
 use Rattle.hukolearu.proofs.CallsTold as CallsTold
 use Rattle.hukolearu.proofs.DoorLaws.{passed}

@@ -1,18 +1,17 @@
 -- The walk over the words finds the first clause of the table without a positive literal.
 use mathlib.Core.Path.{◌≡◌, refl, sym, ap, ◌∙◌}
-use mathlib.Core.Bool.{Bool, true, false, cond, not, ◌||◌}
+use mathlib.Core.Bool.{Bool, true, false, cond}
 use mathlib.Core.List.{List, [], ◌∷◌, map}
 use mathlib.Core.Option.{Option, none, some}
-use Prim.Native.Nat.{ℕ, zero, suc, ◌+◌, ◌≤◌, ◌<◌}
+use Prim.Native.Nat.{ℕ, zero, suc, ◌+◌, ◌≤◌}
 use native.Mathlib.Omega.{arith}
 use borrow.Author.Tests.{eq-eqb, ne_eqb}
 use lib.Dec.{eqb}
 use lib.ListN.{length, take}
 use Rattle.words.specs.Fields.{kind_of, following_of}
 use Rattle.table.specs.Body.{starts, last_of, any_positive}
-use Rattle.table.specs.Decode.{terms_from, before_literals, literals_from, clause_of, parts_from, clauses_of, with_question, as_table, table_of}
+use Rattle.table.specs.Decode.{before_literals, literals_from, clause_of, parts_from, clauses_of, with_question, as_table, table_of}
 use Rattle.table.specs.File.{judge, body_of}
-use Rattle.table.specs.Syntax.{Clause}
 use Rattle.table.proofs.AcceptedTable.{question_start, body_readable}
 use Rattle.restart.specs.Conclusions.{concludes, first_without, first_negative}
 use Rattle.restart.specs.Walking.{unconcluded}

@@ -1,7 +1,7 @@
 -- Each statement of specs/Promises.antt, of every desk; and that what collections and education see is such as they want.
 use mathlib.Core.List.{List, [], ◌∷◌}
 use mathlib.Core.Option.{Option, none, some}
-use mathlib.Core.Path.{◌≡◌, refl, sym, ap, ◌∙◌}
+use mathlib.Core.Path.{◌≡◌, refl, ap, ◌∙◌}
 use Prim.Native.Nat.{ℕ, ◌≤◌}
 use native.Mathlib.Omega.{arith}
 use lib.ListN.{length, length-map}
@@ -20,7 +20,7 @@ use Rattle.rules.specs.Machinery.Play.{check, search_for}
 use Rattle.rules.specs.Verdict.{Refusal, malformed, not_allowed, not_unified, leaves_open, status_of}
 use Rattle.rules.proofs.Demands.{larger_budget, proof_is_short}
 use Rattle.hukolearu.specs.Door.{Fault, first_fault, checks, behind, Admitted}
-use Rattle.hukolearu.specs.Calls.{Given, room_of, search_given, check_given, refused_by, SearchAsked, inputs_by, search_by, CheckAsked, check_inputs, check_by}
+use Rattle.hukolearu.specs.Calls.{Given, room_of, search_given, check_given, SearchAsked, inputs_by, search_by, CheckAsked, check_by}
 use Rattle.hukolearu.specs.Says.{SearchSays, ran_out, none_found, found_fitting, found_too_long, CheckSays, not_closed, closed_fitting, closed_too_long}
 use Rattle.hukolearu.specs.declared.door.Inputs.{Inputs}
 use Rattle.hukolearu.proofs.Accepts.{asks_negative}

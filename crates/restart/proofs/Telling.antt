@@ -1,5 +1,5 @@
 -- What the calls tell, by the clause that is missing a conclusion: each law goes from what a call knows to what it promises.
-use mathlib.Core.List.{List, [], ◌∷◌, ◌++◌}
+use mathlib.Core.List.{List, [], ◌∷◌}
 use mathlib.Core.Option.{Option, none, some}
 use mathlib.Core.Path.{◌≡◌, refl, sym, ap, ◌∙◌}
 use Prim.Native.Nat.{ℕ, zero, suc, ◌+◌, ◌-◌, ◌<◌}
@@ -17,12 +17,12 @@ use Rattle.table.proofs.Accepted.{accepted}
 use Rattle.seen.specs.Copying.{seen_in}
 use Rattle.rules.specs.Setting.{one_way, read_steps}
 use Rattle.rules.specs.Machinery.Play.{check, search_for}
-use Rattle.hukolearu.specs.Door.{Fault, first_fault, checks, behind, Admitted, entry_of}
-use Rattle.hukolearu.specs.Calls.{Given, refused, refused_by, search_given, check_given, SearchAsked, inputs_by, search_by, CheckAsked, check_inputs, check_by}
+use Rattle.hukolearu.specs.Door.{Fault, first_fault, checks, behind, entry_of}
+use Rattle.hukolearu.specs.Calls.{refused, refused_by, search_given, check_given, SearchAsked, inputs_by, search_by, CheckAsked, check_inputs, check_by}
 use Rattle.hukolearu.specs.declared.door.Entry.{Entry}
 use Rattle.hukolearu.specs.declared.door.Entry.TheVariants.{Open, Refused}
 use Rattle.hukolearu.specs.declared.door.Inputs.{Inputs}
-use Rattle.hukolearu.proofs.DoorLaws.{passed, admitted, opened, fault_met, inside, further_checks, refused_before}
+use Rattle.hukolearu.proofs.DoorLaws.{passed, opened, fault_met, inside, further_checks, refused_before}
 use Rattle.education.specs.Education.{education_by, education_check_by}
 use Rattle.restart.specs.Conclusions.{first_negative}
 use Rattle.restart.specs.Restart.{refused_at, restart_checks, missing_for, search_setting, check_setting, search_on, check_on}

@@ -2,7 +2,7 @@
 use mathlib.Core.Path.{◌≡◌, refl, sym, ap, ap₂, ◌∙◌}
 use mathlib.Core.Bool.{Bool, true, false, cond, not, ◌||◌}
 use mathlib.Core.List.{List, [], ◌∷◌}
-use mathlib.Core.Option.{Option, none, some}
+use mathlib.Core.Option.{none, some}
 use Prim.Native.Nat.{ℕ, zero, suc, ◌+◌, ◌-◌, ◌≤◌, ◌<◌}
 use native.Mathlib.Omega.{arith}
 use native.Mathlib.Numerals.{add-one}
@@ -13,7 +13,6 @@ use borrow.Author.Tests.{not-true, not-false, eq-eqb, ne_eqb}
 use Rattle.words.specs.Fields.{following_of}
 use Rattle.table.specs.Body.{positive, any_positive}
 use Rattle.restart.specs.Walking.{unconcluded, conclusions_of}
-use Rattle.restart.specs.declared.conclusions.Conclusions.{Conclusions}
 use Rattle.restart.specs.declared.conclusions.Conclusions.TheVariants.{Each, Missing}
 
 -- so far no positive literal was met

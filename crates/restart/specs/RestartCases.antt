@@ -2,7 +2,7 @@
 use Rattle.std.specs.Prelude.{List, [], ◌∷◌, ◌++◌, map, ◌≡◌, ℕ}
 use Rattle.table.specs.File.{table_in}
 use Rattle.seen.specs.Copying.{seen_in}
-use Rattle.hukolearu.specs.Calls.{Given, refused, granted, SearchAsked, CheckAsked, check_call}
+use Rattle.hukolearu.specs.Calls.{refused, granted, SearchAsked, CheckAsked, check_call}
 use Rattle.hukolearu.specs.Cases.{mat_or_eve, by_reduction, found, none, ample}
 use Rattle.restart.specs.Restart.{SearchAccepted, search_on, check_on}
 

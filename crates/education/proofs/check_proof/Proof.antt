@@ -7,9 +7,9 @@ use Rattle.education.proofs.check_proof.Tie as tie
 
 returns : tie.Need-returns
 returns c =
-    let a = c.before.before.before.before.before.before.before.before.before.before.before.args in
+    let a = c.args in
     let e = base_check (check_with a.file.now a.bound a.offered.now a.answer.now a.work.now) in
-    let x = c.before.before.before.before.check-by.ensures in
+    let x = c.check_by.ensures in
     (x.0 ∙ ap (λ (g : Given). g.outcome) e, (x.1.0 ∙ ap (λ (g : Given). at_front g.answer a.answer.now) e, x.1.1))
 
 pub check_proof_spec : {M : Type 1} → statement M

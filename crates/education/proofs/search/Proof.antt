@@ -7,9 +7,9 @@ use Rattle.education.proofs.search.Tie as tie
 
 returns : tie.Need-returns
 returns c =
-    let a = c.before.before.before.before.before.before.before.before.before.before.before.before.before.before.args in
+    let a = c.args in
     let e = base_search (search_with a.file.now a.bound a.budget a.proof.now a.answer.now a.work.now) in
-    let x = c.before.before.before.before.before.before.search-by.ensures in
+    let x = c.search_by.ensures in
     (x.0 ∙ ap (λ (g : Given). g.outcome) e, (x.1.0 ∙ ap (λ (g : Given). at_front g.proof a.proof.now) e, (x.1.1.0 ∙ ap (λ (g : Given). at_front g.answer a.answer.now) e, x.1.1.1)))
 
 pub search_spec : {M : Type 1} → statement M

@@ -9,31 +9,31 @@ use Rattle.education.proofs.Telling.{copy_refused, copy_short, search_refused, s
 use Rattle.education.proofs.search_by.Statement.{statement}
 use Rattle.education.proofs.search_by.Tie as tie
 
-returns : tie.Need-returns
+returns : tie.Need-returns-then-words-eq0
 returns c =
-    let a = c.before.before.before.before.before.before.before.before.before.before.before.before.before.before.before.before.before.before.before.args in
+    let a = c.args in
     let asked = search_with a.file.now a.conditions.bound a.budget a.proof.now a.answer.now a.work.now in
-    let e = search_refused (profile_of a.conditions.restarts) asked (copy_refused a.file.now c.before.before.before.before.before.before.before.before.before.before.before.before.copy_Seen.ensures.0 c.before.before.before.before.before.before.before.before.before.before.if1.true) in
-    let t = c.before.before.before.before.before.before.search-by.ensures in
+    let e = search_refused (profile_of a.conditions.restarts) asked (copy_refused a.file.now c.copy_seen-words.ensures.0 c.if-words-eq0.true) in
+    let t = c.search_by.ensures in
     (t.0 ∙ ap (λ (g : Given). g.outcome) (sym e), (t.1.0 ∙ ap (λ (g : Given). at_front g.proof a.proof.now) (sym e), (t.1.1.0 ∙ ap (λ (g : Given). at_front g.answer a.answer.now) (sym e), t.1.1.1)))
 
-array-share-prefix-copy : tie.Need-array-share-prefix-copy
+array-share-prefix-copy : tie.Need-slice_bounds-copy-end
 array-share-prefix-copy c =
-    let seen = c.before.before.copy_Seen in
-    omega (arith, copy_short c.before.before.before.before.before.before.before.before.before.args.file.now c.before.before.before.before.before.before.before.before.shared-slice-known.given seen.ensures.0 c.if1.false, seen.auto.1.0, c.before.before.before.before.file-buffer.ensures)
+    let seen = c.copy_seen-words in
+    omega (arith, copy_short c.args.file.now c.shared_slice_known-1.given seen.ensures.0 c.if-words-eq0.false, seen.auto.copy, c.file_buffer-copy.ensures)
 
-slice-aggregate : tie.Need-slice-aggregate-search-by
+slice-aggregate : tie.Need-slice_bounds-search_by-end
 slice-aggregate c =
-    let seen = c.before.before.before.copy_Seen in
-    sym (length-take-le seen.result seen.new.1.0 (omega (arith, copy_short c.before.before.before.before.before.before.before.before.before.before.args.file.now c.before.before.before.before.before.before.before.before.before.shared-slice-known.given seen.ensures.0 c.before.if1.false, seen.auto.1.0, c.before.before.before.before.before.file-buffer.ensures)))
+    let seen = c.copy_seen-words in
+    sym (length-take-le seen.result seen.new.copy (omega (arith, copy_short c.args.file.now c.shared_slice_known-1.given seen.ensures.0 c.if-words-eq0.false, seen.auto.copy, c.file_buffer-copy.ensures)))
 
-returns-2 : tie.Need-returns-2
+returns-2 : tie.Need-returns
 returns-2 c =
-    let a = c.before.before.before.before.before.before.before.before.before.before.before.before.before.before.before.before.before.before.before.before.args in
+    let a = c.args in
     let asked = search_with a.file.now a.conditions.bound a.budget a.proof.now a.answer.now a.work.now in
-    let seen = c.before.before.before.before.before.before.before.before.before.before.before.before.before.copy_Seen in
-    let e = search_copy a.file.now c.before.before.before.before.before.before.before.before.before.before.before.before.before.before.before.before.before.before.before.shared-slice-known.given seen.ensures.0 c.before.before.before.before.before.before.before.before.before.before.before.if1.false c.before.before.before.before.before.before.before.before.before.before.before.before.before.before.before.file-buffer.result seen.ensures.1 (profile_of a.conditions.restarts) asked refl in
-    let t = c.before.before.before.before.before.before.search-by2.ensures in
+    let seen = c.copy_seen-words in
+    let e = search_copy a.file.now c.shared_slice_known-1.given seen.ensures.0 c.if-words-eq0.false c.file_buffer-copy.result seen.ensures.1 (profile_of a.conditions.restarts) asked refl in
+    let t = c.search_by-2.ensures in
     (t.0 ∙ ap (λ (g : Given). g.outcome) (sym e), (t.1.0 ∙ ap (λ (g : Given). at_front g.proof a.proof.now) (sym e), (t.1.1.0 ∙ ap (λ (g : Given). at_front g.answer a.answer.now) (sym e), t.1.1.1)))
 
 pub search_by_spec : {M : Type 1} → statement M

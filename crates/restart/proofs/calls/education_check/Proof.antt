@@ -1,27 +1,26 @@
 use borrow.Author.Rules.{rules}
 use mathlib.Core.List.{[]}
 use mathlib.Core.Path.{sym, ◌∙◌, ap}
-use Rattle.hukolearu.specs.Calls.{Given, CheckAsked, check_inputs, check_with, at_front}
+use Rattle.hukolearu.specs.Calls.{Given, check_inputs, check_with, at_front}
 use Rattle.seen.specs.Copying.{seen_in}
 use Rattle.hukolearu.proofs.CallsTold.{refuses}
 use Rattle.restart.proofs.Telling.{missing_place, none_missing, missing_fits, check_missing, seen_check_concluded}
 use Rattle.restart.proofs.calls.education_check.Statement.{statement}
 use Rattle.restart.proofs.calls.education_check.Tie as tie
 
-abbrev asked : tie.After-missing → CheckAsked
-asked c = let a = c.before.before.before.before.before.args in check_with a.file.now a.bound a.offered.now a.answer.now a.work.now
-
-refused-there : tie.Need-returns
+refused-there : tie.Need-returns-in-Missing
 refused-there c =
-    let e = check_missing seen_in (asked c.before.before.before.before.before.before.before.before) (missing_place (asked c.before.before.before.before.before.before.before.before).file (check_inputs (asked c.before.before.before.before.before.before.before.before)) c.before.before.before.before.before.before.before.before.missing.ensures c.before.before.before.before.before.before.conclusions.given.1) in
+    let asks = check_with c.args.file.now c.args.bound c.args.offered.now c.args.answer.now c.args.work.now in
+    let e = check_missing seen_in asks (missing_place asks.file (check_inputs asks) c.missing-conclusions.ensures c.in-Missing.is) in
     let t = refuses e [] _ c.refused.ensures in
-    (t.numbers, (t.words, c.before.before.before.leave.ensures))
+    (t.numbers, (t.words, c.leave.ensures))
 
-concluded : tie.Need-returns-2
+concluded : tie.Need-returns-in-Each
 concluded c =
-    let a = c.before.before.before.before.before.before.before.before.before.before.before.before.before.before.args in
-    let e = sym (seen_check_concluded (asked c.before.before.before.before.before.before.before.before.before) (none_missing (asked c.before.before.before.before.before.before.before.before.before).file (check_inputs (asked c.before.before.before.before.before.before.before.before.before)) c.before.before.before.before.before.before.before.before.before.missing.ensures c.before.before.before.before.before.before.before.enum_told.given.1)) in
-    let x = c.before.before.before.before.check-by.ensures in
+    let a = c.args in
+    let asks = check_with c.args.file.now c.args.bound c.args.offered.now c.args.answer.now c.args.work.now in
+    let e = sym (seen_check_concluded asks (none_missing asks.file (check_inputs asks) c.missing-conclusions.ensures c.in-Each.is)) in
+    let x = c.check_by.ensures in
     (x.0 ∙ ap (λ (g : Given). g.outcome) e, (x.1.0 ∙ ap (λ (g : Given). at_front g.answer a.answer.now) e, x.1.1))
 
 pub education_check_spec : {M : Type 1} → statement M
@@ -31,7 +30,7 @@ education_check_spec =
     (λ c κs. search rules)
     (λ c. search rules)
     (λ c κs. search rules)
-    (λ c. missing_fits (asked c.before.before.before.before.before.before.before).file (check_inputs (asked c.before.before.before.before.before.before.before)) c.before.before.before.before.before.before.before.missing.ensures c.before.before.before.before.before.conclusions.given.1)
+    (λ c. let asks = check_with c.args.file.now c.args.bound c.args.offered.now c.args.answer.now c.args.work.now in missing_fits asks.file (check_inputs asks) c.missing-conclusions.ensures c.in-Missing.is)
     (λ c κs. search rules)
     (λ c. search rules)
     (λ c κs. search rules)

@@ -1,27 +1,26 @@
 use borrow.Author.Rules.{rules}
 use mathlib.Core.Path.{sym, ◌∙◌, ap}
 use Rattle.rules.specs.Setting.{one_way}
-use Rattle.hukolearu.specs.Calls.{Given, SearchAsked, inputs_by, search_with, at_front}
+use Rattle.hukolearu.specs.Calls.{Given, inputs_by, search_with, at_front}
 use Rattle.seen.specs.Copying.{seen_in}
 use Rattle.hukolearu.proofs.CallsTold.{refuses}
 use Rattle.restart.proofs.Telling.{missing_place, none_missing, missing_fits, search_missing, seen_search_concluded}
 use Rattle.restart.proofs.calls.education_search.Statement.{statement}
 use Rattle.restart.proofs.calls.education_search.Tie as tie
 
-abbrev asked : tie.After-missing → SearchAsked
-asked c = let a = c.before.before.before.before.before.args in search_with a.file.now a.bound a.budget a.proof.now a.answer.now a.work.now
-
-refused-there : tie.Need-returns
+refused-there : tie.Need-returns-in-Missing
 refused-there c =
-    let e = search_missing seen_in (asked c.before.before.before.before.before.before.before.before) (missing_place (asked c.before.before.before.before.before.before.before.before).file (inputs_by one_way (asked c.before.before.before.before.before.before.before.before)) c.before.before.before.before.before.before.before.before.missing.ensures c.before.before.before.before.before.before.conclusions.given.1) in
+    let asks = search_with c.args.file.now c.args.bound c.args.budget c.args.proof.now c.args.answer.now c.args.work.now in
+    let e = search_missing seen_in asks (missing_place asks.file (inputs_by one_way asks) c.missing-conclusions.ensures c.in-Missing.is) in
     let t = refuses e _ _ c.refused.ensures in
-    (t.numbers, (t.steps, (t.words, c.before.before.before.leave.ensures)))
+    (t.numbers, (t.steps, (t.words, c.leave.ensures)))
 
-concluded : tie.Need-returns-2
+concluded : tie.Need-returns-in-Each
 concluded c =
-    let a = c.before.before.before.before.before.before.before.before.before.before.before.before.before.before.before.before.before.args in
-    let e = sym (seen_search_concluded (asked c.before.before.before.before.before.before.before.before.before.before.before.before) (none_missing (asked c.before.before.before.before.before.before.before.before.before.before.before.before).file (inputs_by one_way (asked c.before.before.before.before.before.before.before.before.before.before.before.before)) c.before.before.before.before.before.before.before.before.before.before.before.before.missing.ensures c.before.before.before.before.before.before.before.before.before.before.enum_told.given.1)) in
-    let x = c.before.before.before.before.before.before.search-by.ensures in
+    let a = c.args in
+    let asks = search_with c.args.file.now c.args.bound c.args.budget c.args.proof.now c.args.answer.now c.args.work.now in
+    let e = sym (seen_search_concluded asks (none_missing asks.file (inputs_by one_way asks) c.missing-conclusions.ensures c.in-Each.is)) in
+    let x = c.search_by.ensures in
     (x.0 ∙ ap (λ (g : Given). g.outcome) e, (x.1.0 ∙ ap (λ (g : Given). at_front g.proof a.proof.now) e, (x.1.1.0 ∙ ap (λ (g : Given). at_front g.answer a.answer.now) e, x.1.1.1)))
 
 pub education_search_spec : {M : Type 1} → statement M
@@ -31,7 +30,7 @@ education_search_spec =
     (λ c κs. search rules)
     (λ c. search rules)
     (λ c κs. search rules)
-    (λ c. missing_fits (asked c.before.before.before.before.before.before.before).file (inputs_by one_way (asked c.before.before.before.before.before.before.before)) c.before.before.before.before.before.before.before.missing.ensures c.before.before.before.before.before.conclusions.given.1)
+    (λ c. let asks = search_with c.args.file.now c.args.bound c.args.budget c.args.proof.now c.args.answer.now c.args.work.now in missing_fits asks.file (inputs_by one_way asks) c.missing-conclusions.ensures c.in-Missing.is)
     (λ c κs. search rules)
     (λ c. search rules)
     (λ c κs. search rules)

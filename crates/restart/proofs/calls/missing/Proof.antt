@@ -7,9 +7,9 @@ use Rattle.restart.proofs.calls.missing.Tie as tie
 
 judge-requires : tie.Need-judge-requires
 judge-requires c κs =
-    let door = c.before.before.before.before.enter.ensures in
-    let entry = c.before.before.entry.given.1 in
-    let a = c.before.before.before.before.before.before.args in
+    let door = c.enter-entry.ensures in
+    let entry = c.in-Open.is in
+    let a = c.args in
     ((opened a.file.now a.inputs door entry).good_file, c.wide.ensures ∙ at_question a.file.now a.inputs door entry)
 
 pub missing_spec : {M : Type 1} → statement M
@@ -21,5 +21,5 @@ missing_spec =
     (λ c. search rules)
     (λ c κs. search rules)
     judge-requires
-    (λ c. shut_none c.before.before.before.before.args.file.now c.before.before.before.before.args.inputs c.before.before.enter.ensures c.enum_told.given.1)
-    (λ c. open_judged c.before.before.before.before.before.before.before.args.file.now c.before.before.before.before.before.before.before.args.inputs c.before.before.before.before.before.enter.ensures c.before.before.before.entry.given.1 c.judge.ensures))
+    (λ c. shut_none c.args.file.now c.args.inputs c.enter-entry.ensures c.in-Refused.is)
+    (λ c. open_judged c.args.file.now c.args.inputs c.enter-entry.ensures c.in-Open.is c.judge.ensures))

@@ -12,7 +12,7 @@ pub judge_spec : {M : Type 1} → statement M
 judge_spec =
     tie.close
     (tie.spec
-    (λ c. omega (arith, (accepted _ c.before.requires.0).least))
-    (λ c. sym (length-take-le _ c.before.before.args.file.now (omega arith)))
+    (λ c. omega (arith, (accepted _ c.requires.0).least))
+    (λ c. sym (length-take-le _ c.args.file.now (omega arith)))
     (λ c κs. search rules)
-    (λ c. let a = c.before.before.before in c.missing.ensures ∙ ap conclusions_of (judged_walk a.args.file.now a.requires.0 a.requires.1)))
+    (λ c. let a = c in c.missing.ensures ∙ ap conclusions_of (judged_walk a.args.file.now a.requires.0 a.requires.1)))

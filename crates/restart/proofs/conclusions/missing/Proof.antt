@@ -9,10 +9,10 @@ use Rattle.restart.proofs.conclusions.missing.Tie as tie
 
 ruleset all = (rules, walk_laws)
 
-abbrev invariant-loop : tie.invariant-loop
+abbrev invariant-loop : tie.invariant-loop-at
 invariant-loop words question at₀ passing₀ at passing = Walking words question at passing
 
-abbrev decreases-loop : tie.decreases-loop
+abbrev decreases-loop : tie.decreases-loop-at
 decreases-loop words question at₀ passing₀ at passing = length words - at
 
 pub missing_spec : {M : Type 1} → statement M
@@ -32,7 +32,7 @@ missing_spec =
     (λ c κs. search all)
     (λ c κs. search all)
     (λ c κs. search all)
-    (λ c. walk_missing c.before.before.before.before.before.before.before.before.loop.invariant (omega arith) c.before.before.before.before.before.before.if1.false c.before.before.before.before.before.if2.false (c.before.before.wide.ensures ∙ c.before.before.before.following.ensures) c.before.concludes.ensures c.if3.true)
+    (λ c. walk_missing c.loop-at.invariant (omega arith) c.if-passing-ne0.false c.if-here-question.false (c.wide-passing.ensures ∙ c.following.ensures) c.concludes.ensures (rw c.if-not-concludes.true))
     (λ c. search all)
-    (λ c. walk_on c.before.before.before.before.before.before.before.before.loop.invariant (omega arith) c.before.before.before.before.before.before.if1.false c.before.before.before.before.before.if2.false (c.before.before.wide.ensures ∙ c.before.before.before.following.ensures) c.before.concludes.ensures c.if3.false)
+    (λ c. walk_on c.loop-at.invariant (omega arith) c.if-passing-ne0.false c.if-here-question.false (c.wide-passing.ensures ∙ c.following.ensures) c.concludes.ensures (rw c.if-not-concludes.false))
     (λ c. search all))
