@@ -15,22 +15,19 @@ use Rattle.bound_literals.proofs.call.literals.Tie as tie
 
 ruleset all = (rules, call_refused)
 
-accepted : (c : tie.After-entry) → (let a = c.before.before.before.before.before.before.before.args in Admitted a.file.now (asked a.bound (length a.work.now)))
-accepted c = opened _ _ c.before.before.enter.ensures c.entry.given.1
-
-requires : tie.Need-written-requires
+requires : tie.Need-written-n-requires
 requires c κs =
-    let door = c.before.before.before in
-    let a = door.before.before.before.before.before.before.before.args in
-    all_passed a.work.now (accepted door) (at_question _ (asked a.bound (length a.work.now)) door.before.before.enter.ensures door.entry.given.1) refl
+    let door = c in
+    let a = door.args in
+    all_passed a.work.now (opened c.args.file.now (asked c.args.bound (length c.args.work.now)) c.enter-entry.ensures c.in-Open.is) (at_question a.file.now (asked a.bound (length a.work.now)) door.enter-entry.ensures door.in-Open.is) refl
 
-admitted : tie.Need-returns-2
+admitted : tie.Need-returns-in-Open
 admitted c =
-    let door = c.before.before.before.before.before.before.before.before.before.before.before.before in
-    let inside = c.before.before.before.before.before.before.before.before.written in
-    let part : List ℕ = inside.new.1.1.1.1.1.0 in (
-      call_admitted _ _ _ _ door.before.before.enter.ensures door.entry.given.1 inside.ensures,
-      c.before.before.leave2.ensures ∙ work_left _ part (accepted door).enough_work inside.auto.1.1.1.1.1.0,
+    let door = c in
+    let inside = c.written-n in
+    let part : List ℕ = inside.new.work in (
+      call_admitted c.args.file.now c.args.bound c.args.steps.now (length c.args.work.now) door.enter-entry.ensures door.in-Open.is inside.ensures,
+      c.leave-in-Open.ensures ∙ work_left c.args.work.now part (opened c.args.file.now (asked c.args.bound (length c.args.work.now)) c.enter-entry.ensures c.in-Open.is).enough_work inside.auto.work,
     )
 
 pub literals_spec : {M : Type 1} → statement M
@@ -41,8 +38,8 @@ literals_spec =
     (λ c. search rules)
     (λ c κs. search rules)
     (λ c. search rules)
-    (λ c. (accepted c.before.before).enough_work)
-    (λ c. sym (length-take-le 16384 c.before.before.before.before.before.before.before.before.before.before.args.work.now (accepted c.before.before.before).enough_work))
+    (λ c. (opened c.args.file.now (asked c.args.bound (length c.args.work.now)) c.enter-entry.ensures c.in-Open.is).enough_work)
+    (λ c. sym (length-take-le 16384 c.args.work.now (opened c.args.file.now (asked c.args.bound (length c.args.work.now)) c.enter-entry.ensures c.in-Open.is).enough_work))
     requires
     (λ c κs. search rules)
     (λ c. search rules)

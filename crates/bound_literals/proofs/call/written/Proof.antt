@@ -1,3 +1,5 @@
+use mathlib.Core.Bool.{not}
+use mathlib.Core.Path.{ap}
 use borrow.Author.Rules.{rules}
 use Rattle.bound_literals.proofs.Slots.{replayed_not, replayed_good, replayed_slots}
 use Rattle.bound_literals.proofs.call.written.Statement.{statement}
@@ -11,8 +13,8 @@ written_spec =
     (tie.spec
     (λ c κs. search all)
     (λ c. search all)
-    (λ c. replayed_not c.before.before.before.replay.ensures c.if1.true _)
-    (λ c κs. replayed_good c.before.before.before.before.before.replay.ensures c.before.before.if1.false)
+    (λ c. replayed_not c.replay.ensures (ap not c.if-not-replay.true) _)
+    (λ c κs. replayed_good c.replay.ensures (ap not c.if-not-replay.false))
     (λ c. search all)
     (λ c. search all)
-    (λ c. replayed_slots c.before.before.before.before.before.before.before.before.replay.ensures c.before.before.before.before.before.if1.false c.before.before.slots.ensures))
+    (λ c. replayed_slots c.replay.ensures (ap not c.if-not-replay.false) c.slots.ensures))

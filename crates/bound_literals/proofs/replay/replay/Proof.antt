@@ -14,53 +14,53 @@ use Rattle.bound_literals.proofs.replay.replay.Tie as tie
 
 ruleset all = (rules, replay_begin, replay_on, replay_refused, replay_done)
 
-abbrev invariant-loop : tie.invariant-loop
+abbrev invariant-loop : tie.invariant-loop-i
 invariant-loop file work₀ question conditions steps place₀ i₀ work place i = Replaying file work conditions steps place i
 
-abbrev decreases-loop : tie.decreases-loop
+abbrev decreases-loop : tie.decreases-loop-i
 decreases-loop file work₀ question conditions steps place₀ i₀ work place i = length steps - i
 
 prepare-requires : tie.Need-prepare-requires invariant-loop decreases-loop
 prepare-requires c κs = search all
 
-begin-requires : tie.Need-begin-requires invariant-loop decreases-loop
-begin-requires c κs = (c.before.before.before.prepare.auto.1.0 ∙ c.before.before.before.before.before.before.before.before.requires.room, question_clause _ c.before.before.before.before.before.before.before.before.requires.judged c.before.before.before.before.before.before.before.before.requires.asked)
+begin-requires : tie.Need-begin-place-requires invariant-loop decreases-loop
+begin-requires c κs = (c.prepare.auto.work ∙ c.requires.room, question_clause _ c.requires.judged c.requires.asked)
 
-loop-holds : tie.Need-loop-init invariant-loop decreases-loop
-loop-holds c = replay_begin _ c.before.before.before.before.before.before.before.before.before.before.before.requires.judged c.before.before.before.before.before.before.before.before.before.before.before.requires.asked c.before.before.begin.ensures.0 c.before.before.before.before.before.before.prepare.ensures c.before.before.begin.ensures.1 _
+loop-holds : tie.Need-loop-i-init invariant-loop decreases-loop
+loop-holds c = replay_begin _ c.requires.judged c.requires.asked c.begin-place.ensures.0 c.prepare.ensures c.begin-place.ensures.1 _
 
-mul-step-taken : tie.Need-overflow-mul-step-taken invariant-loop decreases-loop
+mul-step-taken : tie.Need-offset_bounds-steps-i invariant-loop decreases-loop
 mul-step-taken c = search all
 
-shared-slice-read-step-taken : tie.Need-shared-slice-read-step-taken invariant-loop decreases-loop
+shared-slice-read-step-taken : tie.Need-bounds-steps-i invariant-loop decreases-loop
 shared-slice-read-step-taken c = search all
 
-step-taken-requires : tie.Need-step-taken-requires invariant-loop decreases-loop
-step-taken-requires c κs = (c.before.before.before.loop.invariant.ready, c.before.before.before.before.before.before.before.before.before.before.before.before.before.before.before.requires.judged, c.before.before.before.before.before.before.before.before.before.before.before.before.before.before.before.requires.low, c.before.before.before.loop.invariant.noted, c.before.before.before.before.before.before.before.before.before.before.before.before.before.before.before.requires.asked)
+step-taken-requires : tie.Need-step_taken-judged-requires invariant-loop decreases-loop
+step-taken-requires c κs = (c.loop-i.invariant.ready, c.requires.judged, c.requires.low, c.loop-i.invariant.noted, c.requires.asked)
 
-enum-known-judged : tie.Need-enum-known-judged invariant-loop decreases-loop
+enum-known-judged : tie.Need-enum_known-judged invariant-loop decreases-loop
 enum-known-judged c = search all
 
-same_length : tie.Need-same-length invariant-loop decreases-loop
+same_length : tie.Need-shape_of-work-in_default invariant-loop decreases-loop
 same_length c = search all
 
-returns : tie.Need-returns invariant-loop decreases-loop
-returns c = let k = c.match.keys2 in replayed_false _ _ _ _ (replay_refused c.before.before.before.before.before.before.before.loop.invariant c.before.before.before.before.before.before.loop-test.true _ c.before.before.before.step-taken.ensures (λ next e. miss (1 ∷ 2 ∷ 3 ∷ 4 ∷ []) 0 tt (rw e at k)))
+returns : tie.Need-returns-in_default invariant-loop decreases-loop
+returns c = replayed_false _ _ _ _ (replay_refused c.loop-i.invariant c.loop-i-test.true _ c.step_taken-judged.ensures c.in_default.not-On)
 
-add-i : tie.Need-overflow-add-i invariant-loop decreases-loop
-add-i c = omega (arith, c.before.before.before.before.before.before.before.before.loop-test.true, c.before.before.before.before.before.before.before.before.before.before.before.before.before.before.before.before.before.before.before.before.before.well-formed)
+add-i : tie.Need-overflow_add-i invariant-loop decreases-loop
+add-i c = omega (arith, c.loop-i-test.true, c.well_formed)
 
-loop-less : tie.Need-loop-smaller invariant-loop decreases-loop
+loop-less : tie.Need-loop-i-smaller invariant-loop decreases-loop
 loop-less c = omega arith
 
-loop-again : tie.Need-loop-preserved invariant-loop decreases-loop
+loop-again : tie.Need-loop-i-preserved invariant-loop decreases-loop
 loop-again c = search all
 
-same-length-2 : tie.Need-same-length-2 invariant-loop decreases-loop
+same-length-2 : tie.Need-shape_of-work invariant-loop decreases-loop
 same-length-2 c = search all
 
-returns-2 : tie.Need-returns-2 invariant-loop decreases-loop
-returns-2 c = replayed_true _ _ _ _ (replay_done c.before.loop.invariant c.loop-test.false)
+returns-2 : tie.Need-returns invariant-loop decreases-loop
+returns-2 c = replayed_true _ _ _ _ (replay_done c.loop-i.invariant c.loop-i-test.false)
 
 pub replay_spec : {M : Type 1} → statement M
 replay_spec =

@@ -12,11 +12,11 @@ held_spec =
     tie.close
     (tie.spec
     (λ c. search all)
-    (λ c. held_none _ _ _ _ _ refl c.if1.true)
+    (λ c. held_none _ _ _ _ _ refl c.if-work-copy.true)
     (λ c κs. search all)
-    (λ c. held_missing _ _ _ _ c.before.before.if1.false c.before.offset.ensures _ c.if2.true)
+    (λ c. held_missing _ _ _ _ c.if-work-copy.false c.offset-at.ensures _ c.if-at-eq0.true)
     (λ c. search all)
     (λ c. search all)
-    (λ c κs. (c.before.before.before.before.before.before.before.before.requires, c.before.before.offset.ensures.stands c.before.if2.false))
+    (λ c κs. (c.requires, c.offset-at.ensures.stands c.if-at-eq0.false))
     (λ c. search all)
-    (λ c. held_there _ _ _ _ c.before.before.before.before.before.before.if1.false c.before.before.before.before.before.offset.ensures c.before.before.before.before.if2.false c.before.before.literal.ensures))
+    (λ c. held_there _ _ _ _ c.if-work-copy.false c.offset-at.ensures c.if-at-eq0.false c.literal.ensures))

@@ -8,10 +8,10 @@ use Rattle.bound_literals.proofs.slot.words.Tie as tie
 
 ruleset all = (rules, begin, byte_more, byte_last)
 
-abbrev invariant-loop : tie.invariant-loop
+abbrev invariant-loop : tie.invariant-loop-i
 invariant-loop list out₀ from at₀ i₀ out at i = (i ≤ length list) × Left out₀ from list out at (drop i list)
 
-abbrev decreases-loop : tie.decreases-loop
+abbrev decreases-loop : tie.decreases-loop-i
 decreases-loop list out₀ from at₀ i₀ out at i = length list - i
 
 pub words_spec : {M : Type 1} → statement M

@@ -45,10 +45,10 @@ put_word_at t = and 3 put-word-kinds.ps (is 3 put-word-kinds.ps μ_put_word t) p
 abbrev put_word_below : ℕ → In 3 put-word-kinds.ps
 put_word_below t = and 3 put-word-kinds.ps (falls 3 put-word-kinds.ps ◌<◌ μ_put_word t) put_word.Pre
 
-abbrev Inv : put-terms-lts.invariant-loop
+abbrev Inv : put-terms-lts.invariant-loop-owed
 Inv file work reference count out₀ from at₀ to₀ owed₀ out at to owed = Walked file work reference count out₀ from out at to owed
 
-abbrev μ : put-terms-lts.decreases-loop
+abbrev μ : put-terms-lts.decreases-loop-owed
 μ file work reference count out₀ from at₀ to₀ owed₀ out at to owed = 8448 - at
 
 abbrev told_terms : ℕ → put-terms-lts.Claims
@@ -72,8 +72,8 @@ told_word t = (
   put-terms.Post,
 )
 
-pub +put-terms-put-word-spec : {M : Type 1} → statement M
-+put-terms-put-word-spec =
+pub +put_terms_put_word_spec : {M : Type 1} → statement M
++put_terms_put_word_spec =
     close
     μ_put_terms
     μ_put_word
@@ -87,32 +87,32 @@ pub +put-terms-put-word-spec : {M : Type 1} → statement M
     (λ c. search all)
     (λ c. search all)
     (λ c κs. search (all, owed_inside))
-    (λ c κs. let g = c.before.before.before.before.loop.invariant in (omega (arith, c.before.before.before.before.before.before.before.before.requires.0, walk_low g, walk_size g), (c.before.before.before.before.before.before.before.before.requires.1.0, walk_points g c.before.before.before.loop-test.true, c.before.word_at.ensures, walk_inside g)))
-    (λ c κs. let g = c.before.before.before.before.before.before.before.loop.invariant in (omega (arith, c.before.before.before.before.before.before.loop-test.true), owed_few c.before.before.before.before.before.before.before.before.before.before.before.requires.1.0 g.ahead c.before.before.before.before.before.before.loop-test.true))
-    (λ c. omega (arith, owed_small c.before.before.before.before.before.before.before.before.before.before.before.before.requires.1.0 c.before.before.before.before.before.before.before.before.loop.invariant.ahead c.before.before.before.before.before.before.before.loop-test.true))
-    (λ c. omega (arith, owed_small c.before.before.before.before.before.before.before.before.before.before.before.before.requires.1.0 c.before.before.before.before.before.before.before.before.loop.invariant.ahead c.before.before.before.before.before.before.before.loop-test.true))
-    (λ c. walk_on c.before.before.before.before.before.before.before.before.loop.invariant c.before.before.before.before.before.before.before.loop-test.true c.before.before.before.before.before.before.before.before.before.before.before.before.requires.1.0 c.before.before.before.before.before.word_at.ensures c.before.before.before.put_word.ensures c.owed-after.ensures)
+    (λ c κs. let g = c.loop-owed.invariant in (omega (arith, c.requires.0, walk_low g, walk_size g), (c.requires.1.0, walk_points g c.loop-owed-test.true, c.word_at-word.ensures, walk_inside g)))
+    (λ c κs. let g = c.loop-owed.invariant in (omega (arith, c.loop-owed-test.true), owed_few c.requires.1.0 g.ahead c.loop-owed-test.true))
+    (λ c. omega (arith, owed_small c.requires.1.0 c.loop-owed.invariant.ahead c.loop-owed-test.true))
+    (λ c. omega (arith, owed_small c.requires.1.0 c.loop-owed.invariant.ahead c.loop-owed-test.true))
+    (λ c. walk_on c.loop-owed.invariant c.loop-owed-test.true c.requires.1.0 c.word_at-word.ensures c.put_word-to.ensures c.owed_after-owed.ensures)
     (λ c. search all)
     (λ c. search all))
     λ t. put-word-lts.spec
     (told_word t)
     (put_word_at t)
     put_word.Post
-    (λ c. fill_full _ _ _ c.if1.true c.before.before.before.before.requires.1.3)
+    (λ c. fill_full _ _ _ c.if-out-from.true c.requires.1.3)
     (λ c κs. search all)
     (λ c κs. search all)
     (λ c. search all)
-    (λ c. word_fixed c.before.before.before.before.before.before.before.before.before.before.requires.1.0 c.before.before.before.before.before.before.before.before.before.before.requires.1.1 c.before.before.before.before.before.before.before.before.before.before.requires.1.2 c.before.before.before.before.before.kind.ensures c.before.before.before.before.if2.true c.before.before.before.before.before.before.before.before.before.before.ranges.word.fits c.before.before.one.ensures)
+    (λ c. word_fixed c.requires.1.0 c.requires.1.1 c.requires.1.2 c.kind.ensures c.if-kind-ne0.true c.ranges.word.fits c.one.ensures)
     (λ c κs. search all)
-    (λ c κs. inside c.before.before.before.before.before.before.before.requires.1.0 c.follow.ensures.points)
+    (λ c κs. inside c.requires.1.0 c.follow-r.ensures.points)
     (λ c κs. search all)
     (λ c κs. search all)
     (λ c κs. search all)
     (λ c. search all)
-    (λ c. word_free c.before.before.before.before.before.before.before.before.before.before.before.before.before.before.before.requires.1.0 c.before.before.before.before.before.before.before.before.before.before.before.before.before.before.before.requires.1.1 c.before.before.before.before.before.before.before.before.before.before.before.before.before.before.before.requires.1.2 c.before.before.before.before.before.before.before.before.before.before.kind.ensures c.before.before.before.before.before.before.before.before.before.if2.false c.before.before.before.before.before.before.before.before.follow.ensures c.before.before.before.before.before.before.before.word_at.ensures c.before.before.before.before.before.before.kind2.ensures c.before.before.before.before.before.if3.true c.before.before.before.variable-at.ensures c.before.before.one2.ensures)
+    (λ c. word_free c.requires.1.0 c.requires.1.1 c.requires.1.2 c.kind.ensures c.if-kind-ne0.false c.follow-r.ensures c.word_at-met.ensures c.kind-2.ensures c.if-kind-eq0.true c.variable_at.ensures c.one-then-kind-eq0.ensures)
     (λ c κs. search all)
-    (λ c. omega (arith, small c.before.before.before.before.before.before.before.before.before.before.before.before.before.before.requires.1.0 c.before.before.before.before.before.before.before.follow.ensures.points))
+    (λ c. omega (arith, small c.requires.1.0 c.follow-r.ensures.points))
     (λ c κs. search all)
-    (λ c κs. let q = c.before.before.before.before.one3.ensures in (omega (arith, c.before.before.before.before.before.before.before.before.before.before.before.before.before.before.before.before.requires.0, c.before.before.before.before.before.before.before.before.before.before.before.before.if1.false, q.ends, fill_size c.before.before.before.before.before.before.before.before.before.before.before.before.before.before.before.before.requires.1.3 q), (c.before.before.before.before.before.before.before.before.before.before.before.before.before.before.before.before.requires.1.0, word_ahead c.before.before.before.before.before.before.before.before.before.before.before.before.before.before.before.before.requires.1.0 c.before.before.before.before.before.before.before.before.before.before.before.before.before.before.before.before.requires.1.1 c.before.before.before.before.before.before.before.before.before.before.before.before.before.before.before.before.requires.1.2 c.before.before.before.before.before.before.before.before.before.before.before.kind.ensures c.before.before.before.before.before.before.before.before.before.before.if2.false c.before.before.before.before.before.before.before.before.before.follow.ensures c.before.before.before.before.before.before.before.before.word_at.ensures c.before.before.before.before.before.before.before.kind2.ensures c.before.before.before.before.before.before.if3.false (omega (arith, c.before.before.before.before.before.before.before.before.word_at.type-inv)) c.before.arity.ensures, fill_inside c.before.before.before.before.before.before.before.before.before.before.before.before.before.before.before.before.requires.1.3 q)))
+    (λ c κs. let q = c.one-headed.ensures in (omega (arith, c.requires.0, c.if-out-from.false, q.ends, fill_size c.requires.1.3 q), (c.requires.1.0, word_ahead c.requires.1.0 c.requires.1.1 c.requires.1.2 c.kind.ensures c.if-kind-ne0.false c.follow-r.ensures c.word_at-met.ensures c.kind-2.ensures c.if-kind-eq0.false (omega (arith, c.word_at-met.type_inv)) c.arity.ensures, fill_inside c.requires.1.3 q)))
     (λ c. search all)
-    (λ c. word_function c.before.before.before.before.before.before.before.before.before.before.before.before.before.before.before.before.before.before.before.requires.1.0 c.before.before.before.before.before.before.before.before.before.before.before.before.before.before.before.before.before.before.before.requires.1.1 c.before.before.before.before.before.before.before.before.before.before.before.before.before.before.before.before.before.before.before.requires.1.2 c.before.before.before.before.before.before.before.before.before.before.before.before.before.before.kind.ensures c.before.before.before.before.before.before.before.before.before.before.before.before.before.if2.false c.before.before.before.before.before.before.before.before.before.before.before.before.follow.ensures c.before.before.before.before.before.before.before.before.before.before.before.word_at.ensures c.before.before.before.before.before.before.before.before.before.before.kind2.ensures c.before.before.before.before.before.before.before.before.before.if3.false (omega (arith, c.before.before.before.before.before.before.before.before.before.before.before.word_at.type-inv)) c.before.before.before.before.arity.ensures c.before.before.before.before.before.before.before.before.before.before.before.before.before.before.before.before.before.before.before.requires.1.3 c.before.before.before.before.before.before.before.one3.ensures c.before.before.put-terms.ensures)
+    (λ c. word_function c.requires.1.0 c.requires.1.1 c.requires.1.2 c.kind.ensures c.if-kind-ne0.false c.follow-r.ensures c.word_at-met.ensures c.kind-2.ensures c.if-kind-eq0.false (omega (arith, c.word_at-met.type_inv)) c.arity.ensures c.requires.1.3 c.one-headed.ensures c.put_terms.ensures)

@@ -14,6 +14,6 @@ literal_spec =
     (λ c κs. search all)
     (λ c. search all)
     (λ c κs. search all)
-    (λ c κs. (c.before.before.before.before.before.before.before.before.before.before.requires.0, literal_next c.before.before.before.before.before.before.before.before.before.before.requires.1 (omega (arith, c.before.before.before.before.before.before.word_at.type-inv, c.before.before.before.before.before.before.word_at.ensures)) c.before.before.before.before.before.before.word_at.ensures c.before.arity.ensures, fill_inside (omega arith) c.before.before.before.before.one.ensures))
+    (λ c κs. (c.requires.0, literal_next c.requires.1 (omega (arith, c.word_at-word.type_inv, c.word_at-word.ensures)) c.word_at-word.ensures c.arity.ensures, fill_inside (omega arith) c.one-begun.ensures))
     (λ c. search all)
-    (λ c. literal_filled c.before.before.before.before.before.before.before.before.before.before.before.before.before.requires.1 (omega (arith, c.before.before.before.before.before.before.before.before.before.word_at.type-inv, c.before.before.before.before.before.before.before.before.before.word_at.ensures)) c.before.before.before.before.before.before.before.before.before.word_at.ensures c.before.before.before.before.arity.ensures c.before.before.before.before.before.before.before.one.ensures c.before.before.put-terms.ensures))
+    (λ c. literal_filled c.requires.1 (omega (arith, c.word_at-word.type_inv, c.word_at-word.ensures)) c.word_at-word.ensures c.arity.ensures c.one-begun.ensures c.put_terms.ensures))

@@ -9,10 +9,10 @@ use Rattle.results.proofs.buffers.all.Tie as tie
 
 ruleset all = (rules, all_laws)
 
-abbrev invariant-loop : tie.invariant-loop
+abbrev invariant-loop : tie.invariant-loop-i
 invariant-loop list value i₀ i = (i ≤ length list) × (all_are value list ≡ all_are value (drop i list))
 
-abbrev decreases-loop : tie.decreases-loop
+abbrev decreases-loop : tie.decreases-loop-i
 decreases-loop list value i₀ i = length list - i
 
 pub all_spec : {M : Type 1} → statement M

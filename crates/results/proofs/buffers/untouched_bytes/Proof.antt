@@ -9,10 +9,10 @@ use Rattle.results.proofs.buffers.untouched_bytes.Tie as tie
 
 ruleset all = (rules, all_laws)
 
-abbrev invariant-loop : tie.invariant-loop
+abbrev invariant-loop : tie.invariant-loop-i
 invariant-loop list i₀ i = (i ≤ length list) × (all_are 0xA5 list ≡ all_are 0xA5 (drop i list))
 
-abbrev decreases-loop : tie.decreases-loop
+abbrev decreases-loop : tie.decreases-loop-i
 decreases-loop list i₀ i = length list - i
 
 pub untouched_bytes_spec : {M : Type 1} → statement M

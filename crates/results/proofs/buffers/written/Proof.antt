@@ -10,10 +10,10 @@ use Rattle.results.proofs.buffers.written.Tie as tie
 
 ruleset all = (rules, written_laws)
 
-abbrev invariant-loop : tie.invariant-loop
+abbrev invariant-loop : tie.invariant-loop-n
 invariant-loop list n₀ n = (n ≤ length list) × (all_are 0xA5A5A5A5 (drop n list) ≡ true)
 
-abbrev decreases-loop : tie.decreases-loop
+abbrev decreases-loop : tie.decreases-loop-n
 decreases-loop list n₀ n = n
 
 pub written_spec : {M : Type 1} → statement M

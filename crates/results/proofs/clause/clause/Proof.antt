@@ -9,7 +9,6 @@ pub clause_spec : {M : Type 1} → statement M
 clause_spec =
     tie.close
     (tie.spec
-    (λ c. search all)
     (λ c κs. search all)
     (λ c. search all)
     (λ c. search all)

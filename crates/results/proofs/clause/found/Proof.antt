@@ -10,9 +10,7 @@ found_spec =
     tie.close
     (tie.spec
     (λ c κs. search all)
-    (λ c. search all)
     (λ c κs. search all)
-    (λ c. search all)
     (λ c κs. search all)
     (λ c κs. search all)
     (λ c κs. search all)

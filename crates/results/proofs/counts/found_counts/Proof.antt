@@ -9,9 +9,7 @@ pub found_counts_spec : {M : Type 1} → statement M
 found_counts_spec =
     tie.close
     (tie.spec
-    (λ c. search all)
     (λ c κs. search all)
-    (λ c. search all)
     (λ c κs. search all)
     (λ c. search all)
     (λ c. search all))

@@ -9,11 +9,8 @@ pub other_counts_spec : {M : Type 1} → statement M
 other_counts_spec =
     tie.close
     (tie.spec
-    (λ c. search all)
     (λ c κs. search all)
-    (λ c. search all)
     (λ c κs. search all)
-    (λ c. search all)
     (λ c κs. search all)
     (λ c. search all)
     (λ c. search all))

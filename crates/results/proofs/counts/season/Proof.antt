@@ -20,5 +20,5 @@ season_spec =
     (λ c κs. search all)
     (λ c. search all)
     (λ c.
-    let a = c.before.before.before.before.before.before.before.before.before.before.before.before.before.before.before.before.before.before.before.before.before.before.before.before.before.args in
-    season_is a.r a.proof.now a.answer.now a.work.now c.before.before.before.before.before.before.before.before.before.before.before.before.before.before.before.before.found_counts.ensures c.before.before.before.before.before.before.before.before.before.before.before.before.other_counts.ensures c.before.before.before.before.before.before.before.before.last_counts.ensures c.before.before.before.before.before.before.before.before.before.before.before.before.before.before.before.before.before.before.before.written.ensures c.before.before.before.before.before.before.before.before.before.before.before.before.before.before.before.before.before.before.written2.ensures c.before.before.before.before.front.ensures c.before.before.before.front2.ensures c.before.before.before.before.before.before.before.before.before.before.before.before.before.before.before.before.before.before.before.before.work-kept.ensures c.before.before.lists.ensures))
+    let a = c.args in
+    season_is a.r a.proof.now a.answer.now a.work.now c.found_counts-a.ensures c.other_counts-b.ensures c.last_counts-c.ensures c.written-steps.ensures c.written-words.ensures c.front.ensures c.front-2.ensures c.work_kept-intact.ensures c.lists.ensures))

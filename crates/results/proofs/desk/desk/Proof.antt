@@ -9,7 +9,6 @@ pub desk_spec : {M : Type 1} → statement M
 desk_spec =
     tie.close
     (tie.spec
-    (λ c. search all)
     (λ c κs. search all)
     (λ c κs. search all)
     (λ c κs. search all)

@@ -9,11 +9,8 @@ pub slots_spec : {M : Type 1} → statement M
 slots_spec =
     tie.close
     (tie.spec
-    (λ c. search all)
     (λ c κs. search all)
-    (λ c. search all)
     (λ c κs. search all)
-    (λ c. search all)
     (λ c κs. search all)
     (λ c. search all)
     (λ c. search all))

@@ -9,7 +9,6 @@ pub least_spec : {M : Type 1} → statement M
 least_spec =
     tie.close
     (tie.spec
-    (λ c. search all)
     (λ c κs. search all)
     (λ c κs. search all)
     (λ c κs. search all)

@@ -9,7 +9,6 @@ pub barred_bytes_spec : {M : Type 1} → statement M
 barred_bytes_spec =
     tie.close
     (tie.spec
-    (λ c. search all)
     (λ c κs. search all)
     (λ c κs. search all)
     (λ c. search all)

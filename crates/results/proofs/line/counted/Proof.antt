@@ -9,9 +9,7 @@ pub counted_spec : {M : Type 1} → statement M
 counted_spec =
     tie.close
     (tie.spec
-    (λ c. search all)
     (λ c κs. search all)
-    (λ c. search all)
     (λ c κs. search all)
     (λ c κs. search all)
     (λ c. search all)

@@ -12,7 +12,6 @@ verdict_spec =
     (λ c κs. search all)
     (λ c. search all)
     (λ c. search all)
-    (λ c. search all)
     (λ c κs. search all)
     (λ c. search all)
     (λ c. search all))

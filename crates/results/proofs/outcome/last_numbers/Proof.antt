@@ -9,11 +9,8 @@ pub last_numbers_spec : {M : Type 1} → statement M
 last_numbers_spec =
     tie.close
     (tie.spec
-    (λ c. search all)
     (λ c κs. search all)
-    (λ c. search all)
     (λ c κs. search all)
-    (λ c. search all)
     (λ c κs. search all)
     (λ c. search all)
     (λ c. search all))
