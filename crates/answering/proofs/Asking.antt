@@ -114,25 +114,29 @@ module _ (o : Options) (name text : List ℕ) {out out' : List ℕ} {r : ℕ} wh
   pub ask_unlimited : 32 < o.limit → Put out 0 (bytes "The limit is over 32.\n") out' r → Asks o name text out out' r
   ask_unlimited h p = record { all = bytes "The limit is over 32.\n"; says = AskSays.unlimited h; written = p }
 
+  refused_said : o.limit ≤ 32 → (cs : List Clause) {file left : List ℕ} {read : TextRead} → 16384 ≡ length file → length text ≤ 65536 → Says text cs
+      → Reading.Answered cs file read left → (read.status ≡ 0 → ⊥) → Refused name text read out out' r → Asks o name text out out' r
+  refused_said low cs room h y (Reading.Answered.unasked a) n p =
+      record { all = _; says = AskSays.said low h y (SaysOf.unasked a); written = rw (questions_are text h y) at (p.unasked refl) }
+  refused_said low cs room h y (Reading.Answered.over a b) n p =
+      record { all = _; says = AskSays.said {cs = cs} low h y (SaysOf.over a (λ f. b (rw (← room) f))); written = p.over (λ z. omega (arith, z)) (λ z. omega (arith, z)) (λ z. omega (arith, z)) h cs y }
+  refused_said low cs room h y (Reading.Answered.positive a b c) n p =
+      record { all = _; says = AskSays.said {cs = cs} low h y (SaysOf.positive a (rw (← room) at b) c); written = p.positive refl }
+  refused_said low cs room h y (Reading.Answered.read a b c) n p = absurd (n refl)
+
   pub ask_refused : o.limit ≤ 32 → {file left : List ℕ} {read : TextRead} → 16384 ≡ length file → Reads text file read left → (read.status ≡ 0 → ⊥)
       → Refused name text read out out' r → Asks o name text out out' r
   ask_refused low room (wrong v) n p = record { all = _; says = AskSays.wrong low v; written = p.wrong refl }
-  ask_refused low room (fine h y (Reading.Answered.unasked a)) n p =
-      record { all = _; says = AskSays.said low h y (SaysOf.unasked a); written = rw (questions_are text h y) at (p.unasked refl) }
-  ask_refused low room (fine {cs = cs} h y (Reading.Answered.over a b)) n p =
-      record { all = _; says = AskSays.said {cs = cs} low h y (SaysOf.over a (λ f. b (rw (← room) f))); written = p.over (λ z. omega (arith, z)) (λ z. omega (arith, z)) (λ z. omega (arith, z)) h cs y }
-  ask_refused low room (fine {cs = cs} h y (Reading.Answered.positive a b c)) n p =
-      record { all = _; says = AskSays.said {cs = cs} low h y (SaysOf.positive a (rw (← room) at b) c); written = p.positive refl }
-  ask_refused low room (fine h y (Reading.Answered.read a b c)) n p = absurd (n refl)
+  ask_refused low room (fine {cs = cs} h y a) n p = refused_said low cs room h y a n p
 
-  pub ask_answered : o.limit ≤ 32 → {file left : List ℕ} {read : TextRead} → 16384 ≡ length file → Reads text file read left → read.status ≡ 0
+  answered_said : o.limit ≤ 32 → (cs : List Clause) {file left : List ℕ} {read : TextRead} → 16384 ≡ length file → length text ≤ 65536 → Says text cs
+      → Reading.Answered cs file read left → read.status ≡ 0
       → {w : ℕ} → w ≡ read.words → {front : List ℕ} → front ≡ take w left → Answered o name text front out out' r → Asks o name text out out' r
   unfolding FileAccepted
-  ask_answered low room (wrong v) z e f a = absurd (omega arith)
-  ask_answered low room (fine h y (Reading.Answered.unasked x)) z e f a = absurd (omega arith)
-  ask_answered low room (fine h y (Reading.Answered.over x b)) z e f a = absurd (omega arith)
-  ask_answered low room (fine h y (Reading.Answered.positive x b c)) z e f a = absurd (omega arith)
-  ask_answered low {file} {left} room (fine {cs = cs} h y (Reading.Answered.read x b c)) z {w} e {front} f a =
+  answered_said low cs room h y (Reading.Answered.unasked x) z e f a = absurd (omega arith)
+  answered_said low cs room h y (Reading.Answered.over x b) z e f a = absurd (omega arith)
+  answered_said low cs room h y (Reading.Answered.positive x b c) z e f a = absurd (omega arith)
+  answered_said low cs {file} {left} room h y (Reading.Answered.read x b c) z {w} e {front} f a =
       let words = file_words (table_said cs) in
       let whole : front ≡ words = f ∙ rw e (take-append_seam words (drop (length words) file)) in
       let fits : Fits (table_said cs) 16384 = rw (← room) at b in
@@ -143,5 +147,10 @@ module _ (o : Options) (name text : List ℕ) {out out' : List ℕ} {r : ℕ} wh
         says = AskSays.said low h y (SaysOf.answered x fits c);
         written = rw whole at told;
       }
+
+  pub ask_answered : o.limit ≤ 32 → {file left : List ℕ} {read : TextRead} → 16384 ≡ length file → Reads text file read left → read.status ≡ 0
+      → {w : ℕ} → w ≡ read.words → {front : List ℕ} → front ≡ take w left → Answered o name text front out out' r → Asks o name text out out' r
+  ask_answered low room (wrong v) z e f a = absurd (omega arith)
+  ask_answered low room (fine {cs = cs} h y x) z e f a = answered_said low cs room h y x z e f a
 
 pub ruleset ask_laws = (front_accepted, ask_unlimited, ask_refused, ask_answered)

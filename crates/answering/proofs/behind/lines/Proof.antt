@@ -11,34 +11,34 @@ use Rattle.answering.proofs.Used.{Lining, line_laws}
 
 ruleset all = (rules, line_laws)
 
-abbrev invariant-loop : tie.invariant-loop
+abbrev invariant-loop : tie.invariant-loop-number
 invariant-loop text places copies question out₀ from at₀ number₀ out at number = Lining (names_at text places) copies question out₀ from out at number
 
-abbrev decreases-loop : tie.decreases-loop
+abbrev decreases-loop : tie.decreases-loop-number
 decreases-loop text places copies question out₀ from at₀ number₀ out at number = question - number
 
 -- src/behind.rt:35:5
-loop-holds : tie.Need-loop-init invariant-loop decreases-loop
+loop-holds : tie.Need-loop-number-init invariant-loop decreases-loop
 loop-holds c = search all
 
 -- src/behind.rt:37:20
-mul-used : tie.Need-overflow-mul-used invariant-loop decreases-loop
+mul-used : tie.Need-offset_bounds-copies-this invariant-loop decreases-loop
 mul-used c = search all
 
 -- src/behind.rt:37:20
-shared-slice-read-used : tie.Need-shared-slice-read-used invariant-loop decreases-loop
+shared-slice-read-used : tie.Need-bounds-copies-this invariant-loop decreases-loop
 shared-slice-read-used c = search all
 
 -- src/behind.rt:38:9
-add-number : tie.Need-overflow-add-number invariant-loop decreases-loop
+add-number : tie.Need-overflow_add-number invariant-loop decreases-loop
 add-number c = search all
 
 -- src/behind.rt:35:5
-loop-less : tie.Need-loop-smaller invariant-loop decreases-loop
+loop-less : tie.Need-loop-number-smaller-then-used-eq0 invariant-loop decreases-loop
 loop-less c = search all
 
 -- src/behind.rt:35:5
-loop-again : tie.Need-loop-preserved invariant-loop decreases-loop
+loop-again : tie.Need-loop-number-preserved-then-used-eq0 invariant-loop decreases-loop
 loop-again c = search all
 
 -- src/behind.rt:42:38
@@ -46,15 +46,15 @@ name-requires : tie.Need-name-requires invariant-loop decreases-loop
 name-requires c κs = search all
 
 -- src/behind.rt:42:9
-behind-requires : tie.Need-behind-requires invariant-loop decreases-loop
+behind-requires : tie.Need-behind-at-requires invariant-loop decreases-loop
 behind-requires c κs = search all
 
 -- src/behind.rt:35:5
-loop-less-2 : tie.Need-loop-smaller-2 invariant-loop decreases-loop
+loop-less-2 : tie.Need-loop-number-smaller invariant-loop decreases-loop
 loop-less-2 c = search all
 
 -- src/behind.rt:35:5
-loop-again-2 : tie.Need-loop-preserved-2 invariant-loop decreases-loop
+loop-again-2 : tie.Need-loop-number-preserved invariant-loop decreases-loop
 loop-again-2 c = search all
 
 -- src/behind.rt:47:9
@@ -62,23 +62,23 @@ name-requires-2 : tie.Need-name-requires-2 invariant-loop decreases-loop
 name-requires-2 c κs = search all
 
 -- src/behind.rt:48:9
-mul-behind : tie.Need-overflow-mul-behind invariant-loop decreases-loop
+mul-behind : tie.Need-offset_bounds-copies-question invariant-loop decreases-loop
 mul-behind c = search all
 
 -- src/behind.rt:48:9
-shared-slice-read-behind : tie.Need-shared-slice-read-behind invariant-loop decreases-loop
+shared-slice-read-behind : tie.Need-bounds-copies-question invariant-loop decreases-loop
 shared-slice-read-behind c = search all
 
 -- src/behind.rt:48:9
-add-behind : tie.Need-overflow-add-behind invariant-loop decreases-loop
+add-behind : tie.Need-overflow_add-copies invariant-loop decreases-loop
 add-behind c = search all
 
 -- src/behind.rt:44:5
-behind-requires-2 : tie.Need-behind-requires-2 invariant-loop decreases-loop
+behind-requires-2 : tie.Need-behind-requires invariant-loop decreases-loop
 behind-requires-2 c κs = search all
 
 -- src/behind.rt:22:1
-same_length : tie.Need-same-length invariant-loop decreases-loop
+same_length : tie.Need-shape_of-out invariant-loop decreases-loop
 same_length c = search all
 
 -- src/behind.rt:22:1

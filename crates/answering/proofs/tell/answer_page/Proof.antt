@@ -5,22 +5,22 @@ use Rattle.answering.proofs.tell.answer_page.Tie as tie
 
 ruleset all = (rules, page_cut)
 
-page-requires : tie.Need-page-requires
+page-requires : tie.Need-page-page-requires
 page-requires c κs = search rules
 
-slice-aggregate-answer : tie.Need-slice-aggregate-answer
+slice-aggregate-answer : tie.Need-slice_bounds-answer-end
 slice-aggregate-answer c = search rules
 
-answer-requires : tie.Need-answer-requires
+answer-requires : tie.Need-answer-n-requires
 answer-requires c κs = search rules
 
-slice-aggregate-cut : tie.Need-slice-aggregate-cut
+slice-aggregate-cut : tie.Need-slice_bounds-cut-end
 slice-aggregate-cut c = search rules
 
 cut-requires : tie.Need-cut-requires
 cut-requires c κs = search rules
 
-same_length : tie.Need-same-length
+same_length : tie.Need-shape_of-out
 same_length c = search rules
 
 returns : tie.Need-returns

@@ -5,16 +5,16 @@ use Rattle.answering.proofs.tell.found.Tie as tie
 
 ruleset all = (rules, found_is)
 
-answer-page-requires : tie.Need-answer-page-requires
+answer-page-requires : tie.Need-answer_page-a-requires
 answer-page-requires c κs = search rules
 
-grounds-requires : tie.Need-grounds-requires
+grounds-requires : tie.Need-grounds-b-requires
 grounds-requires c κs = search rules
 
 lines-requires : tie.Need-lines-requires
 lines-requires c κs = search rules
 
-same_length : tie.Need-same-length
+same_length : tie.Need-shape_of-out
 same_length c = search rules
 
 returns : tie.Need-returns

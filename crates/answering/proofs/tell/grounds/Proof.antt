@@ -8,16 +8,16 @@ ruleset all = (rules, grounds_are)
 rest-requires : tie.Need-rest-requires
 rest-requires c κs = search rules
 
-front-requires : tie.Need-front-requires
+front-requires : tie.Need-front-places-requires
 front-requires c κs = search rules
 
-clauses-requires : tie.Need-clauses-requires
+clauses-requires : tie.Need-clauses-next-requires
 clauses-requires c κs = search rules
 
 proof-requires : tie.Need-proof-requires
 proof-requires c κs = search rules
 
-same_length : tie.Need-same-length
+same_length : tie.Need-shape_of-out
 same_length c = search rules
 
 returns : tie.Need-returns
