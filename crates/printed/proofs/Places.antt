@@ -9,7 +9,7 @@ use lib.Dec.{eqb}
 use lib.ListN.{length, get_or, length-append}
 use Rattle.table.specs.Syntax.{Term, var, app, Terms, nil, ◌then◌, under, unders, Literal, literal_under}
 use Rattle.rules.specs.Substitution.{Variable, same_variable}
-use Rattle.rules.specs.Answer.{occurring, occurring_in, occurring_all, seen_by, firsts_after_by, firsts_by, place_by, seen, firsts_after, firsts, place_of, numbered}
+use Rattle.rules.specs.Answer.{occurring, occurring_in, occurring_all, seen_by, firsts_after_by, firsts_by, place_by, seen, firsts_after, place_of, numbered}
 use Rattle.rules.proofs.Every.{All, all_then, true_false}
 use Rattle.rules.proofs.Firsts as Firsts
 use Rattle.rules.proofs.FirstPlaces.{place_left, place_last}

@@ -18,7 +18,7 @@ use Rattle.clausetext.specs.Kinds.{kind_of, sign_kind, letter_kind}
 use Rattle.clausetext.specs.Syntax as Spoken
 use Rattle.clausetext.specs.Tokens.{Token, Spelt, nothing}
 use Rattle.clausetext.specs.Grammar.{Applied, bare, applied, LiteralRule, positive, negated}
-use Rattle.names.specs.Numbers.{Name, same_name, noted, known_after, number_in}
+use Rattle.names.specs.Numbers.{Name, same_name, noted, known_after}
 use Rattle.names.specs.Noting.{name_from, name_at, names_at}
 use Rattle.tptp.specs.Reads.{Reads}
 use Rattle.tptp.specs.Said as Said
@@ -29,7 +29,7 @@ use Rattle.naming.specs.Index.{name_of, function_places, predicate_places}
 use Rattle.naming.specs.Noting.{Tells}
 use Rattle.naming.specs.Shown.{joint_text, sign_text, closing, closed, opening, opened, shown_by, shown, names_in}
 use Rattle.naming.specs.Texts.{term_text, arguments_text, further_text, literal_text, literals_text, going_on, begins, ReadAs}
-use Rattle.rules.specs.Setting.{every_leaf, over, base}
+use Rattle.rules.specs.Setting.{every_leaf, base}
 use Rattle.rules.specs.Tableau.{Tableau, Closed}
 use Rattle.rules.specs.Verdict.{Answers}
 use Rattle.rules.specs.Machinery.Play.{answer_of, disjuncts_of}
@@ -346,7 +346,7 @@ typed_there : Reads typed (replicate 20 0xA5A5A5A5) (record { status = 0; place 
 typed_there = subst (λ (t : List ℕ). Reads t (replicate 20 0xA5A5A5A5) (record { status = 0; place = 0; words = 18 }) (typed_file ++ (0xA5A5A5A5 ∷ 0xA5A5A5A5 ∷ []))) typed_text typed_read
 
 pub any_index_will_do : AnyIndexWillDo
-any_index_will_do cs says index made indexed = record {
+any_index_will_do cs says _ made indexed = record {
   says = says;
   buffer = replicate 20 0xA5A5A5A5;
   left = typed_file ++ (0xA5A5A5A5 ∷ 0xA5A5A5A5 ∷ []);

@@ -27,7 +27,7 @@ use Rattle.rules.specs.Substitution.{Substitution, Solves}
 use Rattle.rules.specs.Setting.{Profile, every_leaf, read_steps, Setting, over}
 use Rattle.rules.specs.Tableau.{Closed}
 use Rattle.rules.specs.Answer.{disjunct, per_copy, same_disjunct, seen_by, firsts_after_by, firsts_by, disjuncts, numbered, joined, disjuncts_in, Reads}
-use Rattle.rules.specs.Verdict.{Refusal, malformed, not_allowed, not_unified, leaves_open, status_of, accepted, Answers}
+use Rattle.rules.specs.Verdict.{Refusal, malformed, not_allowed, not_unified, leaves_open, status_of, Answers}
 use Rattle.rules.specs.Comparison.{a_clash, a_circle}
 use Rattle.rules.proofs.Checker.{accepted_closed}
 use Rattle.rules.proofs.Demands.{answer_is_read}
