@@ -1,34 +1,31 @@
 -- The lines after `or` are the answer's disjuncts: in an answer's words only its literals begin with a literal's word, so the words are cut
 -- where the disjuncts begin.
-use mathlib.Core.Bool.{Bool, true, false, cond}
+use mathlib.Core.Bool.{true, false}
 use mathlib.Core.List.{List, [], ◌∷◌, ◌++◌, map, flatten, append_assoc}
 use mathlib.Core.Logic.{◌⊎◌, inl, inr}
 use mathlib.Core.Path.{◌≡◌, refl, sym, ap, ◌∙◌}
-use Prim.Native.Nat.{ℕ, zero, suc, ◌+◌, ◌*◌, ◌/◌, ◌^◌, ◌≤◌, ◌<◌}
+use Prim.Native.Nat.{ℕ, suc, ◌+◌, ◌*◌, ◌/◌, ◌^◌, ◌≤◌, ◌<◌}
 use native.Mathlib.Nat.{mul-div_cancel_left, suc-mul}
 use native.Mathlib.Omega.{arith}
 use borrow.Author.Tests.{eq-eqb, ne_eqb}
-use lib.Dec.{eqb}
-use lib.ListN.{length, take, drop, length-append}
+use lib.ListN.{length, length-append}
 use lib.Seq.{take_at, drop_at}
 use Rattle.words.specs.Fields.{kind_of, variable_word, function_word, literal_word}
 use Rattle.words.proofs.Packed.{variable_kind, function_kind, literal_kind}
 use Rattle.table.specs.Encode.{term_words, terms_words, literal_words, literals_words}
 use Rattle.table.specs.File.{table_in}
 use Rattle.table.specs.Limits.{TermWithin, TermsWithin, LiteralWithin, Each, Within}
-use Rattle.table.specs.Syntax.{Term, var, app, Terms, nil, ◌then◌, arity, Literal, Clause, Table}
+use Rattle.table.specs.Syntax.{Term, var, app, Terms, nil, ◌then◌, arity, Literal, Clause}
 use Rattle.table.proofs.AcceptedTable.{accepted_within}
 use Rattle.rules.specs.Answer.{disjuncts, joined, numbered, disjuncts_in, Reads}
 use Rattle.rules.specs.Setting.{Setting, base}
-use Rattle.rules.specs.Verdict.{Answers}
 use Rattle.rules.proofs.Reading.{answer_within, answer_read, answer_reads}
 use Rattle.rules.proofs.Truth.{flat_numbered}
 use Rattle.hukolearu.specs.Calls.{Given}
 use Rattle.hukolearu.specs.Says.{SearchSays, ran_out, none_found, found_fitting, found_too_long}
-use Rattle.text.specs.Quoted.{bytes}
-use Rattle.asking.specs.Report.{is_literal, counting, literals_in, passing, disjunct_length, cut_into, lines_of, disjuncts_text, line_text, summary_text, answer_text, report_text}
+use Rattle.asking.specs.Report.{is_literal, literals_in, disjunct_length, cut_into, disjuncts_text, answer_text, report_text}
 use Rattle.asking.specs.Program.{asked, given_text}
-use Rattle.asking.specs.Promises.{disjuncts_found, LinesAreDisjuncts, AsManyLines}
+use Rattle.asking.specs.Promises.{LinesAreDisjuncts, AsManyLines}
 use Rattle.asking.proofs.Given.{Refused, refusal, Says, asked_says}
 
 -- words none of which is a literal's

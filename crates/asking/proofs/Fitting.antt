@@ -1,8 +1,8 @@
 -- Every text of `ask` fits 65,536 bytes.
 use mathlib.Core.Bool.{Bool, true, false, cond}
 use mathlib.Core.List.{List, [], ◌∷◌, ◌++◌}
-use mathlib.Core.Path.{◌≡◌, refl, sym, ap, ◌∙◌}
-use Prim.Native.Nat.{ℕ, zero, suc, ◌+◌, ◌*◌, ◌/◌, ◌^◌, ◌≤◌, ◌<◌}
+use mathlib.Core.Path.{◌≡◌, refl, ap}
+use Prim.Native.Nat.{ℕ, zero, suc, ◌+◌, ◌*◌, ◌/◌, ◌≤◌}
 use native.Mathlib.Omega.{arith}
 use lib.Dec.{eqb}
 use lib.ListN.{length, take, drop, length-append}
@@ -11,7 +11,7 @@ use Rattle.text.specs.Quoted.{bytes}
 use Rattle.text.specs.Digits.{digits_of, significant, hex_text, decimal_text, spaced_text}
 use Rattle.hukolearu.specs.Calls.{Given}
 use Rattle.asking.specs.Report.{summary_text, line_text, disjunct_length, literals_in, cut_into, lines_of, disjunct_text, disjuncts_text, answer_text, report_text}
-use Rattle.asking.specs.Program.{readable, asked, said_of, given_text, ask_text}
+use Rattle.asking.specs.Program.{readable, said_of, given_text, ask_text}
 use Rattle.asking.specs.Promises.{TextFits}
 use Rattle.asking.proofs.Given.{Short, asked_short}
 

@@ -1,23 +1,23 @@
 -- The lines of `ask` put together of parts, one law for each outcome, with premises as the code has them.
-use mathlib.Core.Path.{◌≡◌, refl, sym, ap, ◌∙◌}
-use mathlib.Core.Bool.{Bool, true, false, cond, ◌&&◌}
-use mathlib.Core.List.{List, [], ◌∷◌, ◌++◌, append_assoc}
+use mathlib.Core.Path.{◌≡◌, sym, ◌∙◌}
+use mathlib.Core.Bool.{Bool, true, false}
+use mathlib.Core.List.{List, [], ◌∷◌, ◌++◌}
 use Prim.Native.Nat.{ℕ, zero, suc, ◌+◌, ◌-◌, ◌/◌, ◌%◌, ◌^◌, ◌≤◌, ◌<◌}
 use native.Mathlib.Omega.{arith}
-use lib.Dec.{eqb, leb, ltb}
+use lib.Dec.{eqb, leb}
 use lib.ListN.{length, take, drop, get_or, drop_of_length-le, length-drop}
 use lib.Seq.{drop-drop}
 use mir.Syntax.{w64}
 use mir.Val.{Fits}
-use borrow.Author.Tests.{eq-eqb, ne_eqb, lt-ltb, le-ltb, le-leb, lt-leb}
+use borrow.Author.Tests.{eq-eqb, ne_eqb, le-leb, lt-leb}
 use Rattle.words.specs.Fields.{kind_of}
 use Rattle.text.specs.Quoted.{bytes}
 use Rattle.text.specs.Put.{Put}
 use Rattle.text.specs.Digits.{decimal_text, spaced_text}
-use Rattle.text.proofs.Parts.{part_from, part_length}
+use Rattle.text.proofs.Parts.{part_from}
 use Rattle.text.proofs.Putting.{Left, begin, further, finish, then}
 use Rattle.text.proofs.Written.{from_place}
-use Rattle.asking.specs.Report.{line_text, summary_text, passing, disjunct_length, counting, literals_in, cut_into, lines_of, disjunct_text, disjuncts_text, answer_text, report_text}
+use Rattle.asking.specs.Report.{line_text, summary_text, passing, disjunct_length, literals_in, cut_into, lines_of, disjunct_text, disjuncts_text, answer_text, report_text}
 use Rattle.asking.specs.Program.{readable}
 
 -- a line by its parts

@@ -5,7 +5,6 @@ use mathlib.Core.Path.{◌≡◌}
 use Prim.Native.Nat.{ℕ}
 use Rattle.text.specs.Put.{Put}
 use Rattle.text.proofs.Putting.{begin, finish}
-use Rattle.engine.specs.declared.Conditions.{Conditions}
 use Rattle.hukolearu.specs.Door.{entry_of}
 use Rattle.hukolearu.specs.declared.door.Entry.{Entry}
 use Rattle.hukolearu.specs.declared.door.Entry.TheVariants.{Open, Refused}

@@ -1,5 +1,5 @@
 -- The cases, by computation.
-use mathlib.Core.Path.{◌≡◌, refl}
+use mathlib.Core.Path.{refl}
 use Rattle.words.specs.Steps.{step_of}
 use Rattle.table.specs.Syntax.{under, literal_under}
 use Rattle.table.proofs.Opened.{opened}

@@ -1,6 +1,5 @@
 -- A buffer filled word by word up to its end, and the walk over terms that fills it: one law for each outcome, with premises as the code has them.
 use lib.ListN.{length, set, length-append}
-use mathlib.Core.Bool.{true}
 use mir.Syntax.{w32}
 use mir.Val.{Fits}
 use mathlib.Core.List.{List, [], ◌∷◌, ◌++◌, map, map-append, append_assoc, append-nil}
@@ -8,24 +7,23 @@ use mathlib.Core.Option.{some}
 use mathlib.Core.Path.{◌≡◌, refl, sym, ◌∙◌, ap, ap₂}
 use native.Mathlib.Nat.{le_of_suc-le-suc, not-suc-le-zero}
 use native.Mathlib.Omega.{arith, min_cases}
-use Prim.Native.Nat.{ℕ, zero, suc, ◌+◌, ◌*◌, ◌-◌, ◌/◌, ◌%◌, ◌^◌, min, ◌≤◌, ◌<◌}
-use Rattle.words.specs.Fields.{kind_of, symbol_of, arity_of, negative_of, function_word, literal_word}
+use Prim.Native.Nat.{ℕ, zero, suc, ◌+◌, ◌-◌, ◌/◌, ◌^◌, ◌≤◌, ◌<◌}
+use Rattle.words.specs.Fields.{kind_of, symbol_of, arity_of, function_word, literal_word}
 use Rattle.words.proofs.Packed.{function_word_lem, literal_word_lem}
-use Rattle.table.specs.Syntax.{Term, Terms, var, app, arity, unders, Literal, literal_under}
-use Rattle.table.specs.Encode.{terms_words, literal_words}
+use Rattle.table.specs.Syntax.{Term, Terms, var, arity, unders, Literal, literal_under}
+use Rattle.table.specs.Encode.{literal_words}
 use Rattle.table.specs.Decode.{first}
 use Rattle.rules.specs.Substitution.{Variable, Substitution}
 use Rattle.rules.specs.Tableau.{atom}
-use Rattle.text.specs.Put.{put, after, Put}
+use Rattle.text.specs.Put.{put, after}
 use Rattle.text.proofs.Putting.{begin, finish, length_put, one, then}
 use Rattle.unification.specs.State.{terms_of, literal_at_reference, Points, variable_of}
 use Rattle.unification.specs.Good.{word_at, variable_at, arguments_of, Ahead, Inside, LiteralStands, Good, FollowedTo}
 use Rattle.unification.proofs.TermLists.{arity_under}
 use Rattle.unification.proofs.Words.{function_kind}
 use Rattle.unification.proofs.References.{function_shape, points_fewer}
-use Rattle.unification.proofs.Walk.{inside}
 use Rattle.unification.proofs.Atoms.{literal_inside, literal_ahead, literal_atom, literal_arity}
-use Rattle.answers.specs.Writing.{Item, fixed, free, items_among, items_by_kind, word_items, term_items, resolved, WordStands}
+use Rattle.answers.specs.Writing.{Item, fixed, items_among, items_by_kind, word_items, term_items, resolved, WordStands}
 use Rattle.answers.proofs.Items.{word_by, terms_words_lem}
 use Rattle.answers.proofs.Resolved.{no_items, term_stands}
 use Rattle.answers.proofs.Counting.{owed_ahead, owed_items}

@@ -1,6 +1,5 @@
 -- A copy's literal sought among its clause's words, and its words by what the search came to: one law for each outcome, with premises as the code has them.
 use borrow.Author.Tests.{lt-ltb, le-ltb}
-use lib.Dec.{ltb}
 use lib.ListN.{length, drop, get_or, get_elem?, drop_of_length-le}
 use mathlib.Core.List.{List, [], ◌∷◌, map}
 use mir.Syntax.{w32}
@@ -16,7 +15,7 @@ use Rattle.table.proofs.Decoding.{literals_literal, literals_other}
 use Rattle.rules.specs.Tableau.{fresh, copy_of}
 use Rattle.rules.proofs.Lists.{map_some}
 use Rattle.unification.specs.State.{start_at, copies_of, own_words, literal_at_reference}
-use Rattle.unification.specs.Good.{word_at, Inside, LiteralStands, Good}
+use Rattle.unification.specs.Good.{word_at, Inside, Good}
 use Rattle.answers.specs.Writing.{resolved}
 use Rattle.answers.proofs.CopyWords.{Reached, own_words_lem, own_drop, copy_count, copy_reached, offset_inside, offset_small, offset_word, offset_reached, offset_literal, offset_says}
 use Rattle.bound_literals.specs.Bound.{literal_of_copy, words_under}

@@ -1,29 +1,22 @@
 -- Slots written one after the other: one law for each outcome, with premises as the code has them.
 use borrow.Author.Tests.{not-true, not-false}
-use lib.ListN.{length, take, replicate, get_elem?}
-use lib.Seq.{take_all}
+use lib.ListN.{length, take, replicate}
 use mathlib.Core.Bool.{Bool, true, false, not}
 use mathlib.Core.List.{List, [], ◌∷◌, ◌++◌}
-use mathlib.Core.Option.{Option, none, some}
-use mathlib.Core.Path.{◌≡◌, refl, sym, ◌∙◌, ap, ap₂}
+use mathlib.Core.Option.{none}
+use mathlib.Core.Path.{◌≡◌, refl, ◌∙◌, ap, ap₂}
 use native.Mathlib.Nat.{not-suc-le-zero}
 use native.Mathlib.Numerals.{add-one}
 use native.Mathlib.Omega.{arith}
 use Prim.Native.Nat.{ℕ, zero, suc, ◌+◌, ◌-◌, ◌/◌, ◌%◌, min, ◌≤◌, ◌<◌}
-use Rattle.words.specs.declared.Step.{Step}
-use Rattle.table.specs.Syntax.{Clause, Table}
 use Rattle.table.specs.File.{table_in}
 use Rattle.rules.specs.Setting.{profile_of, read_steps}
-use Rattle.rules.specs.Substitution.{Substitution}
-use Rattle.rules.specs.Machinery.Unify.{solution}
-use Rattle.rules.specs.Machinery.Play.{Play}
 use Rattle.text.specs.Put.{put, Put}
 use Rattle.text.proofs.Putting.{Left, begin, further, finish, then as joined}
-use Rattle.unification.specs.State.{bindings_in}
 use Rattle.unification.specs.Good.{Good}
 use Rattle.engine.specs.declared.Conditions.{Conditions}
-use Rattle.bound_literals.specs.Bound.{literal_of_copy, words_under, words_after, slot, slots_from, slots_of}
-use Rattle.bound_literals.specs.Held.{Filled, clause_held, words_held, play_after, slots_after, Taken, Replayed}
+use Rattle.bound_literals.specs.Bound.{words_after, slot, slots_from, slots_of}
+use Rattle.bound_literals.specs.Held.{Filled, words_held, play_after, slots_after, Taken, Replayed}
 
 -- zeros with words put at the front
 zeros : (n k : ℕ) → n ≤ k → replicate {A = ℕ} n 0 ≡ take n (replicate {A = ℕ} k 0)

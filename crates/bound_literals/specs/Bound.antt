@@ -13,7 +13,7 @@ use Rattle.rules.specs.Substitution.{Variable, Substitution}
 use Rattle.rules.specs.Tableau.{copy_of}
 use Rattle.rules.specs.Machinery.Unify.{solution}
 use Rattle.rules.specs.Machinery.Play.{Play, begin, Performed, goes_on, not_possible, clashes, circular, perform}
-use Rattle.hukolearu.specs.Door.{Fault, first_fault, checks, behind}
+use Rattle.hukolearu.specs.Door.{first_fault, checks, behind}
 use Rattle.hukolearu.specs.declared.door.Inputs.{Inputs}
 
 -- the play after steps, if each of them can be taken

@@ -1,6 +1,6 @@
 -- Cases by computation, on document 01's case 1 (at(e,mat) or at(e,eve); ask at(e,X)) and its questions 7 and 8: what literals are before the first step,
 -- after one and after all of them; steps that cannot be taken.
-use Rattle.std.specs.Prelude.{length, List, [], ◌∷◌, map, ◌≡◌, ℕ}
+use Rattle.std.specs.Prelude.{List, [], ◌∷◌, map, ◌≡◌, ℕ}
 use Rattle.std.proofs.Math.Option.{Option, none, some}
 use Rattle.words.specs.Steps.{step_of}
 use Rattle.table.specs.Syntax.{Table}

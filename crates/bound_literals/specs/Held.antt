@@ -1,5 +1,5 @@
 -- Machinery: what the functions below the call promise one another. No public contract speaks of it.
-use Rattle.std.specs.Prelude.{ltb, length, Bool, true, false, cond, List, [], ◌∷◌, map, ◌≡◌, ℕ, ◌+◌, ◌*◌, min, ◌≤◌, ◌<◌}
+use Rattle.std.specs.Prelude.{ltb, length, Bool, true, false, cond, List, map, ◌≡◌, ℕ, ◌+◌, ◌*◌, min, ◌<◌}
 use Rattle.std.proofs.Math.ListN.{get_elem?}
 use Rattle.std.proofs.Math.Option.{Option, none, some}
 use Rattle.table.specs.Syntax.{Clause}

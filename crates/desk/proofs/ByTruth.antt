@@ -30,7 +30,7 @@ use Rattle.desk.proofs.Bools.{clash, never, and_left, and_right, or_right}
 use Rattle.desk.specs.Records.{Slot, matinee, evening, either, Record, slot_of, records_of}
 use Rattle.desk.specs.Desk.{same_slot, is_of, recorded}
 use Rattle.desk.specs.Asking.{Intake, Asked, asks, status_for}
-use Rattle.desk.specs.Clauses.{constant, alternatives, clause_for, asked_slot, question, desk_table}
+use Rattle.desk.specs.Clauses.{alternatives, clause_for, asked_slot, question, desk_table}
 
 -- a term under a substitution has the value that it has where each variable has its term's value
 module _ (I : Interpretation) (b : Assignment I Variable) (ρ : ℕ → Term Variable) where

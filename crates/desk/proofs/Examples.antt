@@ -5,7 +5,7 @@ use mathlib.Core.List.{List, [], ◌∷◌}
 use mathlib.Core.Logic.{◌≢◌}
 use mathlib.Core.Path.{◌≡◌, refl}
 use Prim.Native.Nat.{ℕ, zero, suc}
-use Rattle.desk.specs.Records.{matinee, evening, slot_of, records_of, record_in_range, words_in_range, acceptable}
+use Rattle.desk.specs.Records.{slot_of, records_of, record_in_range, words_in_range, acceptable}
 use Rattle.desk.specs.Desk.{same_slot, is_of, recorded, named, settles, taken, spent, tries_for, slots_reported, reported, desk_says}
 use Rattle.desk.specs.declared.Report.{Report}
 use Rattle.desk.specs.declared.Report.TheVariants.{Refused, RanOut, Matinee, Evening, MatineeAndEvening, Either, NotRecorded}

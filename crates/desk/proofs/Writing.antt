@@ -7,7 +7,7 @@ use native.Mathlib.Nat.{mod-eq_of_lt}
 use native.Mathlib.Omega.{arith}
 use Prim.Native.Nat.{ℕ, ◌+◌, ◌*◌, ◌/◌, ◌%◌, ◌^◌, ◌≤◌, ◌<◌}
 use Rattle.words.specs.Fields.{function_word, literal_word, clause_word, variable_word}
-use Rattle.table.specs.Build.{at_front, behind, sealed}
+use Rattle.table.specs.Build.{at_front, sealed}
 use Rattle.table.specs.Encode.{clause_words, clauses_words, body_words, file_words}
 use Rattle.table.specs.Syntax.{all_clauses}
 use Rattle.table.proofs.Building.{more_behind, front_long, sealed_file, says_table}

@@ -1,8 +1,8 @@
 -- The season report, one law for each outcome, with premises as the code has them.
-use mathlib.Core.Path.{◌≡◌, refl, sym, ap, ◌∙◌}
-use mathlib.Core.Bool.{Bool, true, false, cond, ◌||◌}
+use mathlib.Core.Path.{◌≡◌, sym, ◌∙◌}
+use mathlib.Core.Bool.{Bool, true, false}
 use mathlib.Core.List.{List, [], ◌∷◌, ◌++◌}
-use Prim.Native.Nat.{ℕ, zero, suc, ◌+◌, ◌-◌, ◌≤◌, ◌<◌, min}
+use Prim.Native.Nat.{ℕ, ◌+◌, ◌-◌, ◌≤◌, ◌<◌}
 use native.Mathlib.Omega.{arith}
 use lib.Dec.{eqb}
 use borrow.Author.Tests.{eq-eqb, ne_eqb}
@@ -11,9 +11,9 @@ use Rattle.text.specs.Quoted.{bytes}
 use Rattle.text.specs.Digits.{decimal_text, long_decimal_text}
 use Rattle.text.proofs.Putting.{then}
 use Rattle.hukolearu.specs.declared.Outcome.{Outcome}
-use Rattle.season.specs.Season.{Run, result_of, counted, how_many, tries_of, one_if}
+use Rattle.season.specs.Season.{Run, result_of, how_many, tries_of}
 use Rattle.season.specs.declared.Report.{Report}
-use Rattle.reports.specs.Counts.{sum_of, long_sum_of, added_report, Told, AddedUp, ended_text, is_found, status_text, spent_text, asked_text, szs_question_text, title_text, found_counts_text, other_counts_text, last_counts_text, season_text, alone_report, one_report, no_question_text}
+use Rattle.reports.specs.Counts.{sum_of, long_sum_of, AddedUp, ended_text, is_found, status_text, spent_text, asked_text, szs_question_text, title_text, found_counts_text, other_counts_text, last_counts_text, season_text, alone_report, one_report, no_question_text}
 
 -- sums
 pub sum_over : (a b : ℕ) → 4294967295 < a + b → 4294967295 ≡ sum_of a b

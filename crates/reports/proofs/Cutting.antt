@@ -1,10 +1,9 @@
 -- A text cut into clauses, one law for each outcome, with premises as the code has them.
-use mathlib.Core.Path.{◌≡◌, refl, sym, ap, ◌∙◌}
+use mathlib.Core.Path.{◌≡◌, refl, ap}
 use mathlib.Core.Bool.{Bool, true, false, not, cond}
-use mathlib.Core.List.{List, [], ◌∷◌, ◌++◌}
-use Prim.Native.Nat.{ℕ, zero, suc, ◌+◌, ◌-◌, ◌≤◌, ◌<◌}
+use mathlib.Core.List.{List, [], ◌∷◌}
+use Prim.Native.Nat.{ℕ, suc, ◌+◌, ◌-◌, ◌≤◌, ◌<◌}
 use native.Mathlib.Omega.{arith}
-use native.Mathlib.Nat.{not-suc-le-zero}
 use lib.Dec.{eqb}
 use lib.ListN.{length, take, drop, get_or, drop_of_length-le, length-drop}
 use lib.Seq.{drop-drop}
@@ -15,7 +14,7 @@ use Rattle.text.proofs.Written.{from_place}
 use Rattle.clausetext.specs.Judging.{start}
 use Rattle.clausetext.specs.Stuck.{stuck_in}
 use Rattle.clausetext.specs.declared.judge.State.{State}
-use Rattle.reports.specs.Clauses.{by_byte, clause_length, onto, clauses_from, stated_part, all_stated, stated_text}
+use Rattle.reports.specs.Clauses.{clause_length, onto, clauses_from, stated_part, all_stated}
 
 -- how far the end of a clause has been sought
 pub record Seeking (text : List ℕ) (from at : ℕ) (remark : Bool) : Type 0 where

@@ -1,6 +1,5 @@
 -- The witnesses, computed from the definitions.
-use mathlib.Core.Path.{◌≡◌, refl}
-use Rattle.text.specs.Quoted.{bytes}
+use mathlib.Core.Path.{refl}
 use Rattle.requests.specs.Pieces.{digit_of, up_to, value_from, number_of, number_at, same_bytes}
 use Rattle.text.specs.Digits.{digits_of, significant}
 use Rattle.clausetext.specs.Kinds.{letter_kind, sign_kind, kind_of}

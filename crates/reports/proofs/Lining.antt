@@ -1,12 +1,12 @@
 -- Records as lines of text, one law for each outcome, with premises as the code has them.
 use mathlib.Core.Path.{◌≡◌, refl, sym, ap, ◌∙◌}
-use mathlib.Core.Bool.{Bool, true, false, not, cond, ◌||◌}
-use mathlib.Core.List.{List, [], ◌∷◌, ◌++◌}
-use Prim.Native.Nat.{ℕ, zero, suc, ◌+◌, ◌-◌, ◌^◌, ◌≤◌, ◌<◌}
+use mathlib.Core.Bool.{Bool, true, false, not, cond}
+use mathlib.Core.List.{List, [], ◌∷◌}
+use Prim.Native.Nat.{ℕ, suc, ◌+◌, ◌-◌, ◌^◌, ◌≤◌, ◌<◌}
 use native.Mathlib.Omega.{arith}
 use mir.Syntax.{w64}
 use mir.Val.{Fits}
-use lib.Dec.{eqb, ltb}
+use lib.Dec.{eqb}
 use lib.ListN.{length, take, drop, get_or, drop_of_length-le, length-drop}
 use lib.Seq.{drop-drop}
 use borrow.Author.Tests.{eq-eqb, ne_eqb, lt-ltb, le-ltb}
@@ -18,13 +18,12 @@ use Rattle.requests.specs.Pieces.{up_to, decimal_at, same_bytes}
 use Rattle.requests.specs.declared.piece.Number.{Number}
 use Rattle.requests.specs.declared.piece.Number.TheVariants.{Value, Bad}
 use Rattle.requests.proofs.Lists.{front_length, front_take}
-use Rattle.reports.specs.Records.{is_blank, ends_piece, blanks_in, piece_in, piece_start, piece_from, piece_bytes, within, number_up_to, slot_named, is_empty, number_at, slot_at, said_slot, said_house, said_in, onto, lines_of, words_of, words_said, fault_or, first_fault}
+use Rattle.reports.specs.Records.{is_blank, ends_piece, blanks_in, piece_in, piece_start, piece_from, piece_bytes, number_up_to, slot_named, is_empty, number_at, slot_at, said_slot, said_house, said_in, onto, lines_of, words_of, words_said, fault_or, first_fault}
 use Rattle.reports.specs.declared.lines.Piece.{Piece}
 use Rattle.reports.specs.declared.records.Wanted.{Wanted}
 use Rattle.reports.specs.declared.records.Wanted.TheVariants.{Nothing, Day, House, Slot, LineEnd}
 use Rattle.reports.specs.declared.records.Said.{Said}
 use Rattle.reports.specs.declared.records.Said.TheVariants.{Empty, Record, Wrong}
-use Rattle.reports.specs.declared.records.Fault.{Fault}
 
 not_true : (q : Bool) → not q ≡ true → q ≡ false
 not_true true e = sym e

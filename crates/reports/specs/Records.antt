@@ -6,7 +6,6 @@ use Rattle.requests.specs.Pieces.{decimal_at, same_bytes}
 use Rattle.requests.specs.declared.piece.Number.{Number}
 use Rattle.requests.specs.declared.piece.Number.TheVariants.{Value, Bad}
 use Rattle.reports.specs.declared.lines.Piece.{Piece}
-use Rattle.reports.specs.declared.records.Wanted.{Wanted}
 use Rattle.reports.specs.declared.records.Wanted.TheVariants.{Nothing, Day, House, Slot, LineEnd}
 use Rattle.reports.specs.declared.records.Said.{Said}
 use Rattle.reports.specs.declared.records.Said.TheVariants.{Empty, Record, Wrong}

@@ -1,5 +1,5 @@
 -- The judgements of this crate on texts and lines, each where it holds and where it fails.
-use Rattle.std.specs.Prelude.{false, List, [], ◌∷◌, ◌≡◌, ℕ}
+use Rattle.std.specs.Prelude.{false, [], ◌∷◌, ◌≡◌, ℕ}
 use Rattle.text.specs.Quoted.{bytes}
 use Rattle.season.specs.declared.Report.{Report}
 use Rattle.desk.specs.declared.Report.TheVariants.{MatineeAndEvening, Either, NotRecorded, RanOut}

@@ -5,7 +5,7 @@ ghost use Rattle.reports.specs.Records.{is_blank, ends_piece, blanks_in, piece_i
 use text::part;
 
 // Where a piece begins and ends; it is empty where the line has no piece more.
-#[derive(Drop)]
+#[derive(Clone, Copy)]
 pub struct Piece {
     pub start: usize,
     pub end: usize,

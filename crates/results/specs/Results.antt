@@ -1,5 +1,5 @@
 -- The result lines of `calls`.
-use Rattle.std.specs.Prelude.{Bool, true, false, cond, List, [], ◌∷◌, ◌++◌, ℕ, min, length, take, drop}
+use Rattle.std.specs.Prelude.{Bool, true, false, List, [], ◌∷◌, ◌++◌, ℕ, min, length, take, drop}
 use Rattle.text.specs.Quoted.{bytes}
 use Rattle.text.specs.Digits.{decimal_text, words_text, bytes_text, long_decimal_text}
 use Rattle.hukolearu.specs.declared.Outcome.{Outcome}

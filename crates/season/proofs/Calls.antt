@@ -1,14 +1,14 @@
 -- What the call gives by what it learns at the door; and what the code finds of an entry is its single run.
-use mathlib.Core.Bool.{Bool, true, false, cond, not, ◌&&◌}
-use mathlib.Core.List.{List, [], ◌∷◌, ◌++◌, map}
+use mathlib.Core.Bool.{Bool, true, false, cond, not}
+use mathlib.Core.List.{List, [], ◌∷◌, map}
 use mathlib.Core.Logic.{◌⊎◌, inl, inr}
 use mathlib.Core.Option.{Option, none, some}
 use mathlib.Core.Path.{◌≡◌, refl, sym, ap, ◌∙◌}
-use Prim.Native.Nat.{ℕ, ◌+◌, ◌≤◌, ◌<◌}
+use Prim.Native.Nat.{ℕ, ◌≤◌}
 use native.Mathlib.Decide.{ℕ_discrete}
 use native.Mathlib.Omega.{arith}
 use borrow.Author.Tests.{le-leb, le-ltb, eq-eqb, ne_eqb, leb-true, eqb-true, not-true, not-false}
-use lib.Dec.{eqb, leb, ltb}
+use lib.Dec.{leb, ltb}
 use lib.ListN.{length}
 use Rattle.table.specs.Body.{body_fault, any_positive}
 use Rattle.table.specs.File.{body_of, size_fits, trailer_fits, fingerprint_fits, clauses_fit, question_words, question_restricted, judge_read, judge_body, judge}
@@ -16,7 +16,7 @@ use Rattle.table.specs.Limits.{Each}
 use Rattle.table.specs.declared.Judgement.{Judgement}
 use Rattle.table.proofs.Bools.{and_left, and_right}
 use Rattle.hukolearu.specs.Door.{Fault, Check, refused_if, first_fault, checks, behind, Admitted, entry_of, work_check, proof_check, bound_check, file_check}
-use Rattle.hukolearu.specs.Calls.{Given, refused_by, SearchAsked, search_inputs, search_call}
+use Rattle.hukolearu.specs.Calls.{refused_by, SearchAsked, search_inputs, search_call}
 use Rattle.hukolearu.specs.Says.{SearchAccepted}
 use Rattle.hukolearu.specs.declared.Outcome.{Outcome}
 use Rattle.hukolearu.specs.declared.door.Entry.{Entry as Entered}
@@ -24,8 +24,8 @@ use Rattle.hukolearu.specs.declared.door.Entry.TheVariants.{Open, Refused}
 use Rattle.hukolearu.specs.declared.door.Inputs.{Inputs}
 use Rattle.hukolearu.proofs.DoorLaws.{passed, opened, admitted, fault_met, further_checks, refused_before}
 use Rattle.hukolearu.proofs.Says.{search_accepted}
-use Rattle.season.specs.Season.{Entry, entries_of, SeasonAsked, file_with, question_at, points_inside, single_asked, result_of, Run, ran, not_run, run_of, runs_of, counted, proof_left, answer_left, entries_fit, entries_check, season_checks, season_fault, refused_report, report_of, proof_after, answer_after}
-use Rattle.season.specs.Asking.{admits, search_inside, question_run, entry_run, Reported}
+use Rattle.season.specs.Season.{Entry, entries_of, SeasonAsked, file_with, question_at, points_inside, single_asked, result_of, Run, ran, not_run, run_of, counted, proof_left, answer_left, entries_fit, entries_check, season_fault, refused_report, report_of, proof_after, answer_after}
+use Rattle.season.specs.Asking.{admits, question_run, entry_run, Reported}
 use Rattle.season.specs.declared.Report.{Report}
 use Rattle.season.proofs.Results.{is_refused}
 

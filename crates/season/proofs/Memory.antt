@@ -1,7 +1,7 @@
 -- The call's own memory: the fingerprint goes on, a question stands alone, and a question's file stands behind the table's own part.
 use mathlib.Core.List.{List, [], ◌∷◌, ◌++◌, append_assoc}
-use mathlib.Core.Path.{◌≡◌, refl, sym, ap, ◌∙◌}
-use Prim.Native.Nat.{ℕ, ◌+◌, ◌-◌, ◌≤◌, ◌<◌}
+use mathlib.Core.Path.{◌≡◌, sym, ap, ◌∙◌}
+use Prim.Native.Nat.{ℕ, ◌+◌, ◌≤◌, ◌<◌}
 use native.Mathlib.Omega.{arith}
 use mir.Syntax.{w32}
 use mir.Val.{Fits}
@@ -18,7 +18,7 @@ use Rattle.table.proofs.Building.{more_behind, front_long}
 use Rattle.table.proofs.Mixing.{mixed_step, mixed_end, mixed_part}
 use Rattle.season.specs.Season.{own_part, body_with, file_with}
 use Rattle.season.specs.Asking.{alone, Tabled, Put}
-use Rattle.season.proofs.Questions.{own_length, question_low, with_long}
+use Rattle.season.proofs.Questions.{own_length, with_long}
 
 -- a slice's words have 32 bits
 pub words_of : (ws : List ℕ) → ((i : ℕ) → Fits w32 (get_or ws i 0)) → Words ws

@@ -1,38 +1,35 @@
 -- Order 13's promises (specs/Promises.antt), proved of the report and of the single runs.
-use mathlib.Core.Bool.{Bool, true, false, cond, not, ◌&&◌}
+use mathlib.Core.Bool.{Bool, true, false, cond}
 use mathlib.Core.List.{List, [], ◌∷◌, ◌++◌, map}
-use mathlib.Core.Logic.{◌↔◌, ◌⊎◌, inl, inr, ◌≢◌}
+use mathlib.Core.Logic.{◌⊎◌, inl, inr, ◌≢◌}
 use mathlib.Core.Option.{Option, none, some}
 use mathlib.Core.Path.{◌≡◌, refl, sym, ap, ◌∙◌, subst}
-use Prim.Native.Nat.{ℕ, zero, suc, ◌+◌, ◌*◌, ◌/◌, ◌%◌, ◌^◌, ◌≤◌, ◌<◌, min}
+use Prim.Native.Nat.{ℕ, zero, suc, ◌+◌, ◌*◌, ◌/◌, ◌%◌, ◌^◌, ◌≤◌, ◌<◌}
 use native.Mathlib.Decide.{dec_lt, ℕ_discrete}
 use native.Mathlib.Omega.{arith}
-use borrow.Author.Tests.{le-leb, lt-leb, leb-true, eq-eqb, ne_eqb, eqb-true, ltb-false, not-false, lt-ltb, le-ltb}
-use lib.Dec.{eqb, leb, ltb}
-use lib.ListN.{length, take, drop, replicate, length-append, length-map, length-replicate, length-drop}
+use borrow.Author.Tests.{le-leb, lt-leb, eq-eqb, eqb-true, ltb-false, not-false, lt-ltb, le-ltb}
+use lib.Dec.{eqb}
+use lib.ListN.{length, drop, replicate, length-append, length-map, length-replicate, length-drop}
 use lib.Seq.{drop_at}
 use Rattle.words.specs.Steps.{step_word}
-use Rattle.table.specs.Encode.{clause_words}
-use Rattle.table.specs.File.{body_of, judge, table_in}
-use Rattle.table.specs.Limits.{Each, ClauseWithin, Within, Words}
+use Rattle.table.specs.File.{judge, table_in}
+use Rattle.table.specs.Limits.{Each, Within, Words}
 use Rattle.table.specs.Decode.{clause_of}
-use Rattle.table.specs.Syntax.{Clause, Table}
 use Rattle.table.proofs.AcceptedTable.{accepted_within}
-use Rattle.table.proofs.Bools.{and_left, and_right}
 use Rattle.table.proofs.BodyDecoding.{each_take}
 use Rattle.table.proofs.Building.{front_long}
 use Rattle.table.proofs.Encoding.{clause_decoded}
 use Rattle.rules.specs.Growing.{Larger, Inserted}
 use Rattle.rules.specs.Setting.{longest_proof, Setting}
 use Rattle.rules.proofs.Demands.{proof_is_short}
-use Rattle.hukolearu.specs.Door.{Fault, Check, first_fault, checks, work_after, behind}
-use Rattle.hukolearu.specs.Calls.{Given, room_of, SearchAsked, search_inputs, search_setting, search_call, search_with, at_front}
+use Rattle.hukolearu.specs.Door.{Fault, first_fault, checks, work_after, behind}
+use Rattle.hukolearu.specs.Calls.{Given, SearchAsked, search_inputs, search_call, search_with, at_front}
 use Rattle.hukolearu.specs.Says.{SearchAccepted, SearchSays, ran_out, none_found, found_fitting, found_too_long}
 use Rattle.hukolearu.specs.CallDemands.{FoundStatus, search_status}
 use Rattle.hukolearu.specs.declared.Outcome.{Outcome}
 use Rattle.hukolearu.proofs.CallDemands.{search_says, never_none}
 use Rattle.hukolearu.proofs.DoorLaws.{first_passes, rest_passes, not_refused, passed, admitted}
-use Rattle.season.specs.Season.{Entry, entries_of, SeasonAsked, file_with, question_at, points_inside, single_asked, result_of, Run, ran, not_run, run_of, runs_of, one_if, how_many, tries_of, counted, proof_left, answer_left, entries_fit, season_fault, refused_report, report_of, proof_after, answer_after, season_with}
+use Rattle.season.specs.Season.{Entry, entries_of, SeasonAsked, file_with, question_at, points_inside, single_asked, result_of, Run, ran, not_run, run_of, runs_of, one_if, how_many, tries_of, counted, proof_left, answer_left, entries_fit, season_fault, report_of, proof_after, answer_after, season_with}
 use Rattle.season.specs.Promises as Promises
 use Rattle.season.specs.Promises.{Reports, Single, Found, Buffers, left_by, ran_in, in_turn, words_of, with_entries, with_table, one_refused_more}
 use Rattle.season.specs.declared.Report.{Report}

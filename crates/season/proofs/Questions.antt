@@ -1,22 +1,22 @@
 -- A question in the place of a table's own: the file is accepted exactly where the question, alone in a file, is, and the whole is not too long.
 -- So the table's own part is judged once.
-use mathlib.Core.Bool.{Bool, true, false, ◌&&◌}
-use mathlib.Core.List.{List, [], ◌∷◌, ◌++◌, append_assoc}
-use mathlib.Core.Path.{◌≡◌, refl, sym, ap, ◌∙◌}
-use Prim.Native.Nat.{ℕ, ◌+◌, ◌-◌, ◌^◌, ◌%◌, ◌≤◌, ◌<◌}
+use mathlib.Core.Bool.{Bool, true, false}
+use mathlib.Core.List.{List, [], ◌∷◌, ◌++◌}
+use mathlib.Core.Path.{◌≡◌, sym, ap, ◌∙◌}
+use Prim.Native.Nat.{ℕ, ◌+◌, ◌-◌, ◌^◌, ◌≤◌, ◌<◌}
 use native.Mathlib.Decide.{ℕ_discrete}
 use native.Mathlib.Omega.{arith}
 use borrow.Author.Tests.{eq-eqb, ne_eqb, le-leb, lt-leb}
-use lib.Dec.{eqb, leb}
+use lib.Dec.{eqb}
 use lib.Bits.{bit_xor}
-use lib.ListN.{length, take, drop, get_or, length-append}
+use lib.ListN.{length, take, drop, length-append}
 use lib.Seq.{take-append_seam, drop-append_seam, get_or-append-add}
 use Rattle.words.specs.Fingerprint.{product, mixed, fnv, bytes_of, fingerprint}
 use Rattle.table.specs.Build.{trailer_words}
-use Rattle.table.specs.Encode.{literals_words, clause_words, clauses_words, body_words, file_words}
+use Rattle.table.specs.Encode.{clause_words, clauses_words, body_words, file_words}
 use Rattle.table.specs.File.{body_of, table_in, trailer, judge}
-use Rattle.table.specs.Limits.{Each, ClauseWithin, Within, FileWithin, Words}
-use Rattle.table.specs.Syntax.{Literal, Clause, Table, all_clauses}
+use Rattle.table.specs.Limits.{Each, ClauseWithin, FileWithin, Words}
+use Rattle.table.specs.Syntax.{Clause, Table, all_clauses}
 use Rattle.table.specs.declared.Judgement.{Judgement}
 use Rattle.table.proofs.Accepted.{accepted}
 use Rattle.table.proofs.AcceptedTable.{accepted_count}

@@ -1,13 +1,11 @@
 -- The result of a run, and one run more counted.
-use mathlib.Core.Bool.{true, false, ◌&&◌}
-use mathlib.Core.List.{List, [], ◌∷◌, map}
-use mathlib.Core.Path.{◌≡◌, refl, sym, ap, ◌∙◌}
-use Prim.Native.Nat.{ℕ, ◌+◌, ◌/◌, ◌%◌, ◌≤◌, ◌<◌}
-use native.Mathlib.Omega.{arith}
+use mathlib.Core.Bool.{false}
+use mathlib.Core.Path.{◌≡◌}
+use Prim.Native.Nat.{ℕ, ◌/◌, ◌%◌}
 use lib.Dec.{eqb, leb}
-use borrow.Author.Tests.{eq-eqb, ne_eqb, le-leb, lt-leb, eqb-true, leb-true}
+use borrow.Author.Tests.{eq-eqb, ne_eqb}
 use Rattle.hukolearu.specs.declared.Outcome.{Outcome}
-use Rattle.season.specs.Season.{result_of, one_if, how_many, tries_of, counted, entries_fit, Run}
+use Rattle.season.specs.Season.{result_of, one_if, entries_fit}
 
 -- outcome by outcome
 module _ (o : Outcome) where

@@ -1,20 +1,19 @@
 -- What comes of a question and of an entry, as the code finds it.
-use mathlib.Core.Bool.{Bool, true, false, not, ◌&&◌}
-use mathlib.Core.List.{List, []}
+use mathlib.Core.Bool.{Bool, true, false, not}
+use mathlib.Core.List.{List}
 use mathlib.Core.Path.{◌≡◌, refl, sym, ap, ◌∙◌}
 use Prim.Native.Nat.{ℕ, ◌+◌, ◌-◌, ◌≤◌, ◌<◌}
 use native.Mathlib.Omega.{arith}
 use borrow.Author.Tests.{le-leb, lt-leb, leb-true, eqb-true, not-true, not-false}
-use lib.Dec.{eqb, leb}
+use lib.Dec.{leb}
 use lib.ListN.{length, take, drop}
 use Rattle.table.specs.File.{judge, trailer}
 use Rattle.table.specs.Limits.{Words}
 use Rattle.table.proofs.Bools.{and_left, and_right}
-use Rattle.hukolearu.specs.Calls.{Given}
 use Rattle.hukolearu.specs.Telling.{Told, Passed}
 use Rattle.hukolearu.specs.declared.Outcome.{Outcome}
-use Rattle.season.specs.Season.{Entry, file_with, question_at, points_inside, result_of, Run, ran, not_run}
-use Rattle.season.specs.Asking.{admits, search_inside, question_run, entry_run, Tabled, Lent, Put, Ran}
+use Rattle.season.specs.Season.{Entry, file_with, result_of, Run, ran, not_run}
+use Rattle.season.specs.Asking.{admits, search_inside, question_run, entry_run, Ran}
 use Rattle.season.specs.declared.ask.Ended.{Ended}
 use Rattle.season.proofs.Questions.{with_asks, with_short, with_question_lem}
 

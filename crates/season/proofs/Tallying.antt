@@ -1,15 +1,15 @@
 -- Entry after entry: what is left, from here, gives the whole report and the buffers.
-use mathlib.Core.Bool.{Bool, true, false, ◌&&◌}
+use mathlib.Core.Bool.{Bool, true, false}
 use mathlib.Core.List.{List, [], ◌∷◌, map}
-use mathlib.Core.Path.{◌≡◌, refl, sym, ap, ◌∙◌}
-use Prim.Native.Nat.{ℕ, suc, ◌+◌, ◌-◌, ◌*◌, ◌/◌, ◌%◌, ◌≤◌, ◌<◌}
+use mathlib.Core.Path.{◌≡◌, refl, ap, ◌∙◌}
+use Prim.Native.Nat.{ℕ, suc, ◌+◌, ◌-◌, ◌/◌, ◌%◌, ◌≤◌, ◌<◌}
 use native.Mathlib.Omega.{arith}
 use borrow.Author.Tests.{eqb-true, leb-true}
 use lib.Dec.{eqb, leb}
 use lib.ListN.{length, drop, get_or, drop_of_length-le}
 use lib.Seq.{drop-cons}
 use Rattle.table.proofs.Bools.{and_left, and_right}
-use Rattle.season.specs.Season.{Entry, entries_of, Run, one_if, how_many, tries_of, counted, proof_left, answer_left, entries_fit, refused_report}
+use Rattle.season.specs.Season.{entries_of, Run, one_if, how_many, tries_of, counted, proof_left, answer_left, entries_fit, refused_report}
 use Rattle.season.specs.Asking.{entry_run, entry_at, Tabled, Lent, Ran, counting, tallied, Few, Reported}
 use Rattle.season.specs.declared.Report.{Report}
 use Rattle.season.specs.declared.ask.Ended.{Ended}

@@ -1,5 +1,5 @@
 -- Machinery: what the season's functions promise one another. The public contract rests on none of this: a reader of it need not believe it.
-use Rattle.std.specs.Prelude.{Bool, cond, ◌&&◌, List, [], ◌∷◌, ◌++◌, map, ◌≡◌, ℕ, ◌+◌, ◌*◌, ◌≤◌, eqb, leb, length, take, drop, get_or}
+use Rattle.std.specs.Prelude.{Bool, cond, ◌&&◌, List, [], ◌∷◌, ◌++◌, map, ◌≡◌, ℕ, ◌+◌, ◌*◌, ◌≤◌, eqb, leb, length, take, get_or}
 use Rattle.words.specs.Fingerprint.{fingerprint}
 use Rattle.table.specs.Build.{trailer_words}
 use Rattle.table.specs.File.{judge, table_in, trailer}

@@ -1,5 +1,5 @@
 -- Order 13 on a small table: every result and every refusal happens, and the promises' premises are met. proofs/Cases.antt proves it by computation.
-use Rattle.std.specs.Prelude.{Bool, true, false, List, [], ◌∷◌, map, ◌≡◌, ℕ}
+use Rattle.std.specs.Prelude.{true, false, List, [], ◌∷◌, map, ◌≡◌, ℕ}
 use Rattle.table.specs.File.{table_in}
 use Rattle.table.specs.Limits.{Words}
 use Rattle.rules.specs.Growing.{Inserted}

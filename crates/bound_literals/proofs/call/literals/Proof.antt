@@ -5,7 +5,6 @@ use lib.Seq.{length-take-le}
 use mathlib.Core.List.{List}
 use mathlib.Core.Path.{refl, sym, ◌∙◌}
 use Prim.Native.Nat.{ℕ}
-use Rattle.hukolearu.specs.Door.{Admitted}
 use Rattle.hukolearu.proofs.DoorLaws.{opened, at_question, work_left}
 use Rattle.hukolearu.proofs.CallsTold.{all_passed}
 use Rattle.bound_literals.specs.Bound.{asked}

@@ -1,6 +1,5 @@
 use borrow.Author.Rules.{rules}
 use mathlib.Core.Path.{refl}
-use native.Mathlib.Omega.{arith}
 use Rattle.bound_literals.proofs.Seeking.{held_none, held_missing, held_there, held_laws}
 use Rattle.bound_literals.proofs.slot.held.Statement.{statement}
 use Rattle.bound_literals.proofs.slot.held.Tie as tie

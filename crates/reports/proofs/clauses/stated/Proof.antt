@@ -10,41 +10,11 @@ use Rattle.reports.proofs.clauses.stated.Tie as tie
 
 ruleset all = (rules, stated_laws)
 
-abbrev invariant-loop : tie.invariant-loop
+abbrev invariant-loop : tie.invariant-loop-at
 invariant-loop text out₀ at₀ used₀ out at used = Left out₀ 0 (stated_text text) out used (all_stated (clauses_from false (drop at text)))
 
-abbrev decreases-loop : tie.decreases-loop
+abbrev decreases-loop : tie.decreases-loop-at
 decreases-loop text out₀ at₀ used₀ out at used = length text - at
-
-loop-holds : tie.Need-loop-init invariant-loop decreases-loop
-loop-holds c = search all
-
-clause-end-requires : tie.Need-clause-end-requires invariant-loop decreases-loop
-clause-end-requires c κs = search all
-
-sub-put-stated : tie.Need-overflow-sub-put-stated invariant-loop decreases-loop
-sub-put-stated c = search all
-
-part-put-stated-start : tie.Need-slice-bounds-put-stated-start invariant-loop decreases-loop
-part-put-stated-start c = search all
-
-part-put-stated-end : tie.Need-slice-bounds-put-stated-end invariant-loop decreases-loop
-part-put-stated-end c = search all
-
-put-stated-requires : tie.Need-put-stated-requires invariant-loop decreases-loop
-put-stated-requires c κs = search all
-
-loop-less : tie.Need-loop-smaller invariant-loop decreases-loop
-loop-less c = search all
-
-loop-again : tie.Need-loop-preserved invariant-loop decreases-loop
-loop-again c = search all
-
-same_length : tie.Need-same-length invariant-loop decreases-loop
-same_length c = search all
-
-returns : tie.Need-returns invariant-loop decreases-loop
-returns c = search all
 
 pub stated_spec : {M : Type 1} → statement M
 stated_spec =
@@ -52,13 +22,13 @@ stated_spec =
     (tie.spec
     invariant-loop
     decreases-loop
-    loop-holds
-    clause-end-requires
-    sub-put-stated
-    part-put-stated-start
-    part-put-stated-end
-    put-stated-requires
-    loop-less
-    loop-again
-    same_length
-    returns)
+    (λ c. search all)
+    (λ c κs. search all)
+    (λ c. search all)
+    (λ c. search all)
+    (λ c. search all)
+    (λ c κs. search all)
+    (λ c. search all)
+    (λ c. search all)
+    (λ c. search all)
+    (λ c. search all))

@@ -9,15 +9,15 @@ pub alone_spec : {M : Type 1} → statement M
 alone_spec =
     tie.close
     (tie.spec
-    (λ c κs. search rules)
+    (λ c κs. search all)
     (λ c. search all)
-    (λ c κs. search rules)
+    (λ c κs. search all)
     (λ c. search all)
-    (λ c κs. search rules)
+    (λ c κs. search all)
     (λ c. search all)
-    (λ c κs. search rules)
+    (λ c κs. search all)
     (λ c. search all)
-    (λ c κs. search rules)
+    (λ c κs. search all)
     (λ c. search all)
-    (λ c κs. search rules)
+    (λ c κs. search all)
     (λ c. search all))

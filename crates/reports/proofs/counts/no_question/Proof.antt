@@ -7,4 +7,8 @@ ruleset all = (rules, no_question_is)
 
 pub no_question_spec : {M : Type 1} → statement M
 no_question_spec =
-    tie.close (tie.spec (λ c κs. search rules) (λ c. search rules) (λ c κs. search rules) (λ c. search rules) (λ c. search all))
+    tie.close (tie.spec
+    (λ c κs. search all)
+    (λ c κs. search all)
+    (λ c. search all)
+    (λ c. search all))

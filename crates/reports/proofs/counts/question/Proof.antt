@@ -9,11 +9,9 @@ pub question_spec : {M : Type 1} → statement M
 question_spec =
     tie.close
     (tie.spec
-    (λ c. search rules)
-    (λ c κs. search rules)
-    (λ c. search rules)
-    (λ c κs. search rules)
-    (λ c κs. search rules)
-    (λ c κs. search rules)
-    (λ c. search rules)
+    (λ c κs. search all)
+    (λ c κs. search all)
+    (λ c κs. search all)
+    (λ c κs. search all)
+    (λ c. search all)
     (λ c. search all))

@@ -9,9 +9,7 @@ pub spent_spec : {M : Type 1} → statement M
 spent_spec =
     tie.close
     (tie.spec
-    (λ c. search rules)
-    (λ c κs. search rules)
-    (λ c. search rules)
-    (λ c κs. search rules)
-    (λ c. search rules)
+    (λ c κs. search all)
+    (λ c κs. search all)
+    (λ c. search all)
     (λ c. search all))

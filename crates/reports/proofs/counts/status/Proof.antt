@@ -5,75 +5,20 @@ use Rattle.reports.proofs.counts.status.Tie as tie
 
 ruleset all = (rules, status_laws)
 
-found-requires : tie.Need-found-requires
-found-requires c κs = search rules
-
-slice-aggregate-bytes : tie.Need-slice-aggregate-bytes
-slice-aggregate-bytes c = search rules
-
-bytes-requires : tie.Need-bytes-requires
-bytes-requires c κs = search rules
-
-same_length : tie.Need-same-length
-same_length c = search rules
-
-returns : tie.Need-returns
-returns c = search all
-
-slice-aggregate-bytes-2 : tie.Need-slice-aggregate-bytes-2
-slice-aggregate-bytes-2 c = search rules
-
-bytes-requires-2 : tie.Need-bytes-requires-2
-bytes-requires-2 c κs = search rules
-
-same-length-2 : tie.Need-same-length-2
-same-length-2 c = search rules
-
-returns-2 : tie.Need-returns-2
-returns-2 c = search all
-
-slice-aggregate-bytes-3 : tie.Need-slice-aggregate-bytes-3
-slice-aggregate-bytes-3 c = search rules
-
-bytes-requires-3 : tie.Need-bytes-requires-3
-bytes-requires-3 c κs = search rules
-
-same-length-3 : tie.Need-same-length-3
-same-length-3 c = search rules
-
-returns-3 : tie.Need-returns-3
-returns-3 c = search all
-
-slice-aggregate-bytes-4 : tie.Need-slice-aggregate-bytes-4
-slice-aggregate-bytes-4 c = search rules
-
-bytes-requires-4 : tie.Need-bytes-requires-4
-bytes-requires-4 c κs = search rules
-
-same-length-4 : tie.Need-same-length-4
-same-length-4 c = search rules
-
-returns-4 : tie.Need-returns-4
-returns-4 c = search all
-
 pub status_spec : {M : Type 1} → statement M
 status_spec =
     tie.close
     (tie.spec
-    found-requires
-    slice-aggregate-bytes
-    bytes-requires
-    same_length
-    returns
-    slice-aggregate-bytes-2
-    bytes-requires-2
-    same-length-2
-    returns-2
-    slice-aggregate-bytes-3
-    bytes-requires-3
-    same-length-3
-    returns-3
-    slice-aggregate-bytes-4
-    bytes-requires-4
-    same-length-4
-    returns-4)
+    (λ c κs. search all)
+    (λ c κs. search all)
+    (λ c. search all)
+    (λ c. search all)
+    (λ c κs. search all)
+    (λ c. search all)
+    (λ c. search all)
+    (λ c κs. search all)
+    (λ c. search all)
+    (λ c. search all)
+    (λ c κs. search all)
+    (λ c. search all)
+    (λ c. search all))

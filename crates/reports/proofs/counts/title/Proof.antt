@@ -5,47 +5,13 @@ use Rattle.reports.proofs.counts.title.Tie as tie
 
 ruleset all = (rules, count_laws)
 
-slice-aggregate-both : tie.Need-slice-aggregate-both
-slice-aggregate-both c = search rules
-
-both-requires : tie.Need-both-requires
-both-requires c κs = search rules
-
-slice-aggregate-field : tie.Need-slice-aggregate-field
-slice-aggregate-field c = search rules
-
-field-requires : tie.Need-field-requires
-field-requires c κs = search rules
-
-slice-aggregate-field-2 : tie.Need-slice-aggregate-field-2
-slice-aggregate-field-2 c = search rules
-
-field-requires-2 : tie.Need-field-requires-2
-field-requires-2 c κs = search rules
-
-slice-aggregate-bytes : tie.Need-slice-aggregate-bytes
-slice-aggregate-bytes c = search rules
-
-bytes-requires : tie.Need-bytes-requires
-bytes-requires c κs = search rules
-
-same_length : tie.Need-same-length
-same_length c = search rules
-
-returns : tie.Need-returns
-returns c = search all
-
 pub title_spec : {M : Type 1} → statement M
 title_spec =
     tie.close
     (tie.spec
-    slice-aggregate-both
-    both-requires
-    slice-aggregate-field
-    field-requires
-    slice-aggregate-field-2
-    field-requires-2
-    slice-aggregate-bytes
-    bytes-requires
-    same_length
-    returns)
+    (λ c κs. search all)
+    (λ c κs. search all)
+    (λ c κs. search all)
+    (λ c κs. search all)
+    (λ c. search all)
+    (λ c. search all))

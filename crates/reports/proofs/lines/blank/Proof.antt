@@ -5,14 +5,10 @@ use Rattle.reports.proofs.lines.blank.Tie as tie
 
 ruleset all = (rules, byte_laws)
 
-returns : tie.Need-returns
-returns c = search all
-
-returns-2 : tie.Need-returns-2
-returns-2 c = search all
-
-returns-3 : tie.Need-returns-3
-returns-3 c = search all
-
 pub blank_spec : {M : Type 1} → statement M
-blank_spec = tie.close (tie.spec returns returns-2 returns-3)
+blank_spec =
+    tie.close
+    (tie.spec
+    (λ c. search all)
+    (λ c. search all)
+    (λ c. search all))

@@ -5,14 +5,10 @@ use Rattle.reports.proofs.lines.ends_piece.Tie as tie
 
 ruleset all = (rules, byte_laws)
 
-returns : tie.Need-returns
-returns c = search all
-
-blank-requires : tie.Need-blank-requires
-blank-requires c κs = search rules
-
-returns-2 : tie.Need-returns-2
-returns-2 c = search all
-
 pub ends_piece_spec : {M : Type 1} → statement M
-ends_piece_spec = tie.close (tie.spec returns blank-requires returns-2)
+ends_piece_spec =
+    tie.close
+    (tie.spec
+    (λ c. search all)
+    (λ c κs. search all)
+    (λ c. search all))

@@ -5,14 +5,10 @@ use Rattle.reports.proofs.lines.next_piece.Tie as tie
 
 ruleset all = (rules, piece_is)
 
-skip-requires : tie.Need-skip-requires
-skip-requires c κs = search rules
-
-stop-requires : tie.Need-stop-requires
-stop-requires c κs = search rules
-
-returns : tie.Need-returns
-returns c = search all
-
 pub next_piece_spec : {M : Type 1} → statement M
-next_piece_spec = tie.close (tie.spec skip-requires stop-requires returns)
+next_piece_spec =
+    tie.close
+    (tie.spec
+    (λ c κs. search all)
+    (λ c κs. search all)
+    (λ c. search all))

@@ -1,41 +1,19 @@
+use mathlib.Core.Bool.{not}
+use mathlib.Core.Path.{ap}
 use borrow.Author.Rules.{rules}
 use Prim.Native.Nat.{◌-◌}
 use lib.ListN.{length}
-use Rattle.reports.proofs.Lining.{Skipping, skip_laws}
+use Rattle.reports.proofs.Lining.{Skipping, skip_stops, skip_more, skip_laws}
 use Rattle.reports.proofs.lines.skip.Statement.{statement}
 use Rattle.reports.proofs.lines.skip.Tie as tie
 
 ruleset all = (rules, skip_laws)
 
-abbrev invariant-loop : tie.invariant-loop
+abbrev invariant-loop : tie.invariant-loop-at
 invariant-loop line from at₀ at = Skipping line from at
 
-abbrev decreases-loop : tie.decreases-loop
+abbrev decreases-loop : tie.decreases-loop-at
 decreases-loop line from at₀ at = length line - at
-
-loop-holds : tie.Need-loop-init invariant-loop decreases-loop
-loop-holds c = search all
-
-shared-slice-read-blank : tie.Need-shared-slice-read-blank invariant-loop decreases-loop
-shared-slice-read-blank c = search all
-
-blank-requires : tie.Need-blank-requires invariant-loop decreases-loop
-blank-requires c κs = search all
-
-returns : tie.Need-returns invariant-loop decreases-loop
-returns c = search all
-
-add_at : tie.Need-overflow-add-at invariant-loop decreases-loop
-add_at c = search all
-
-loop-less : tie.Need-loop-smaller invariant-loop decreases-loop
-loop-less c = search all
-
-loop-again : tie.Need-loop-preserved invariant-loop decreases-loop
-loop-again c = search all
-
-returns-2 : tie.Need-returns-2 invariant-loop decreases-loop
-returns-2 c = search all
 
 pub skip_spec : {M : Type 1} → statement M
 skip_spec =
@@ -43,11 +21,11 @@ skip_spec =
     (tie.spec
     invariant-loop
     decreases-loop
-    loop-holds
-    shared-slice-read-blank
-    blank-requires
-    returns
-    add_at
-    loop-less
-    loop-again
-    returns-2)
+    (λ c. search all)
+    (λ c. search all)
+    (λ c κs. search all)
+    (λ c. skip_stops c.loop-at.invariant c.loop-at-test.true c.blank.ensures (ap not c.if-not-blank.true))
+    (λ c. search all)
+    (λ c. search all)
+    (λ c. skip_more c.loop-at.invariant c.loop-at-test.true c.blank.ensures (ap not c.if-not-blank.false))
+    (λ c. search all))

@@ -9,9 +9,9 @@ pub read_house_spec : {M : Type 1} → statement M
 read_house_spec =
     tie.close
     (tie.spec
-    (λ c κs. search rules)
-    (λ c κs. search rules)
-    (λ c κs. search rules)
+    (λ c κs. search all)
+    (λ c κs. search all)
+    (λ c κs. search all)
     (λ c. search all)
-    (λ c κs. search rules)
+    (λ c κs. search all)
     (λ c. search all))

@@ -9,10 +9,10 @@ pub read_line_spec : {M : Type 1} → statement M
 read_line_spec =
     tie.close
     (tie.spec
-    (λ c κs. search rules)
+    (λ c κs. search all)
     (λ c. search all)
-    (λ c κs. search rules)
-    (λ c κs. search rules)
+    (λ c κs. search all)
+    (λ c κs. search all)
     (λ c. search all)
-    (λ c κs. search rules)
+    (λ c κs. search all)
     (λ c. search all))

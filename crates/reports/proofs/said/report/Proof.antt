@@ -5,43 +5,13 @@ use Rattle.reports.proofs.said.report.Tie as tie
 
 ruleset all = (rules, desk_is)
 
-slice-aggregate-field : tie.Need-slice-aggregate-field
-slice-aggregate-field c = search rules
-
-field-requires : tie.Need-field-requires
-field-requires c κs = search rules
-
-slice-aggregate-field-2 : tie.Need-slice-aggregate-field-2
-slice-aggregate-field-2 c = search rules
-
-field-requires-2 : tie.Need-field-requires-2
-field-requires-2 c κs = search rules
-
-slice-aggregate-bytes : tie.Need-slice-aggregate-bytes
-slice-aggregate-bytes c = search rules
-
-bytes-requires : tie.Need-bytes-requires
-bytes-requires c κs = search rules
-
-slots-requires : tie.Need-slots-requires
-slots-requires c κs = search rules
-
-same_length : tie.Need-same-length
-same_length c = search rules
-
-returns : tie.Need-returns
-returns c = search all
-
 pub report_spec : {M : Type 1} → statement M
 report_spec =
     tie.close
     (tie.spec
-    slice-aggregate-field
-    field-requires
-    slice-aggregate-field-2
-    field-requires-2
-    slice-aggregate-bytes
-    bytes-requires
-    slots-requires
-    same_length
-    returns)
+    (λ c κs. search all)
+    (λ c κs. search all)
+    (λ c κs. search all)
+    (λ c κs. search all)
+    (λ c. search all)
+    (λ c. search all))

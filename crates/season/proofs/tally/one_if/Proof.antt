@@ -1,4 +1,3 @@
-use native.Mathlib.Omega.{arith}
 use borrow.Author.Rules.{rules}
 use Rattle.season.proofs.Results.{one_more, no_more}
 use Rattle.season.proofs.tally.one_if.Statement.{statement}
