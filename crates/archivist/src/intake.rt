@@ -50,8 +50,7 @@ fn answer(rt: &HostRuntime, name: &[u8], text: &[u8], day: u32, house: u32) -> i
         return long(rt, name, text);
     }
     let f = records::first_fault(text);
-    let wanted = f.wanted;
-    match wanted {
+    match f.wanted {
         Wanted::Nothing => tell(rt, text, day, house),
         Wanted::Day => complain(rt, name, text, f),
         Wanted::House => complain(rt, name, text, f),
