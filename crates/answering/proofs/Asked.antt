@@ -10,7 +10,7 @@ use lib.ListN.{length, take, drop, get_or, length-append}
 use lib.Seq.{get_or-take, get_or-drop}
 use Rattle.words.specs.Fields.{literals_of, following_of, clause_word}
 use Rattle.words.proofs.Packed.{clause_literals}
-use Rattle.table.specs.Syntax.{Clause, Table, all_clauses}
+use Rattle.table.specs.Syntax.{Clause, all_clauses}
 use Rattle.table.specs.Encode.{literals_words, clause_words}
 use Rattle.table.specs.File.{judge, table_in, trailer}
 use Rattle.table.proofs.Accepted.{accepted}

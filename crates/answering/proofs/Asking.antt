@@ -1,7 +1,7 @@
 -- All that is written of a text, with premises as the code has them.
 use mathlib.Core.Bool.{Bool, true, false, cond}
-use mathlib.Core.List.{List, [], ◌∷◌, ◌++◌}
-use mathlib.Core.Path.{◌≡◌, refl, sym, ap, subst, ◌∙◌}
+use mathlib.Core.List.{List}
+use mathlib.Core.Path.{◌≡◌, refl, ap, ◌∙◌}
 use Prim.Native.Nat.{ℕ, zero, suc, ◌+◌, ◌-◌, ◌≤◌, ◌<◌}
 use native.Mathlib.Omega.{arith}
 use lib.Dec.{eqb}
@@ -9,9 +9,7 @@ use lib.ListN.{length, take, drop}
 use lib.Seq.{take-append_seam}
 use Rattle.table.specs.Encode.{file_words}
 use Rattle.table.specs.File.{judge, table_in}
-use Rattle.clausetext.specs.Judging.{judged}
 use Rattle.clausetext.specs.declared.judge.Verdict.{Verdict}
-use Rattle.clausetext.specs.declared.judge.Verdict.TheVariants.{Wrong, Fine}
 use Rattle.clausetext.specs.Syntax.{Clause}
 use Rattle.clausetext.specs.Texts.{Says, questions, Verdicts}
 use Rattle.clausetext.proofs.Judgement.{only_verdict}
@@ -19,24 +17,20 @@ use Rattle.tptp.specs.Said.{table_said}
 use Rattle.tptp.specs.declared.TextRead.{TextRead}
 use Rattle.tptp.specs.Reads.{Fits, Denied, Reads, wrong, fine}
 use Rattle.tptp.specs.Reads as Reading
-use Rattle.tptp.specs.Promises.{Written, FileAccepted}
+use Rattle.tptp.specs.Promises.{FileAccepted}
 use Rattle.tptp.proofs.Promises.{file_accepted_as_said}
 use Rattle.text.specs.Put.{Put}
 use Rattle.text.specs.Quoted.{bytes}
-use Rattle.naming.specs.Noting.{Admissible}
-use Rattle.assistant.specs.Refusals.{unasked_text}
-use Rattle.assistant.specs.Results.{szs_text}
-use Rattle.hukolearu.specs.Calls.{Given, at_front}
+use Rattle.hukolearu.specs.Calls.{Given}
 use Rattle.asking.specs.Program.{asked}
 use Rattle.asking.proofs.Given.{Counted, asked_counted, Short, asked_short}
 use Rattle.answering.specs.declared.Options.{Options}
 use Rattle.answering.specs.declared.look.Looked.{Looked}
 use Rattle.answering.specs.Refusing.{counted, questions_in, Refused}
-use Rattle.answering.specs.Looking.{LookedUp, up_to, look_from, looked, Tells, Searchable}
+use Rattle.answering.specs.Looking.{up_to, look_from, looked, Tells, Searchable}
 use Rattle.answering.specs.Results.{said_in, result_text}
 use Rattle.answering.specs.Telling.{Holds, as_looked, Told, Answered}
 use Rattle.answering.specs.Asking.{SaysOf, AskSays, Asks}
-use Rattle.answering.specs.Asking as Said
 
 -- what holds of every search holds of the last
 look_given : (P : Given → Type 0) (search : ℕ → ℕ → Given) → ((k b : ℕ) → P (search k b)) → (budget bound more used : ℕ) → P (look_from search budget bound more used).given

@@ -1,12 +1,10 @@
 -- Bound by bound, with premises as the code has them.
-use mathlib.Core.Bool.{cond}
-use mathlib.Core.List.{List, [], ◌∷◌, ◌++◌}
-use mathlib.Core.Path.{◌≡◌, refl, sym, ap, subst, ◌∙◌}
+use mathlib.Core.List.{List, []}
+use mathlib.Core.Path.{◌≡◌, refl, sym, ap, ◌∙◌}
 use Prim.Native.Nat.{ℕ, zero, suc, ◌+◌, ◌-◌, ◌≤◌, ◌<◌}
 use native.Mathlib.Numerals.{add-one}
 use native.Mathlib.Omega.{arith}
 use borrow.Author.Tests.{eq-eqb, ne_eqb}
-use lib.Dec.{eqb}
 use mir.Syntax.{w32}
 use mir.Val.{Fits}
 use lib.ListN.{length}
@@ -18,7 +16,7 @@ use Rattle.hukolearu.specs.declared.Outcome.{Outcome}
 use Rattle.hukolearu.proofs.CallDemands.{search_says}
 use Rattle.asking.specs.Program.{question, asked}
 use Rattle.answering.specs.declared.look.Looked.{Looked}
-use Rattle.answering.specs.Looking.{LookedUp, up_to, look_from, looked, Tells, Searchable}
+use Rattle.answering.specs.Looking.{up_to, look_from, looked, Tells, Searchable}
 
 -- an accepted search makes no more tries than its budget, and one that says "none" gives no words
 says_tries : {S : Setting} {budget room : ℕ} {g : Given} → SearchSays S budget room g → g.outcome.tries ≤ budget

@@ -1,14 +1,13 @@
 -- What is promised of `ask`.
-use mathlib.Core.Bool.{Bool, true, false, cond}
-use mathlib.Core.List.{List, []}
-use mathlib.Core.Logic.{◌⊎◌, inl, inr}
+use mathlib.Core.Bool.{Bool, true, false}
+use mathlib.Core.List.{List}
+use mathlib.Core.Logic.{inl, inr}
 use mathlib.Core.Path.{◌≡◌, refl, sym, ap, ◌∙◌}
-use Prim.Native.Nat.{ℕ, zero, suc, ◌+◌, ◌-◌, ◌≤◌, ◌<◌}
+use Prim.Native.Nat.{ℕ, zero, suc, ◌+◌, ◌-◌, ◌≤◌}
 use native.Mathlib.Omega.{arith}
-use borrow.Author.Tests.{eqb-true, eqb-false, eq-eqb, ne_eqb}
+use borrow.Author.Tests.{eqb-true, eqb-false, ne_eqb}
 use lib.Dec.{eqb}
 use lib.ListN.{length}
-use Rattle.table.specs.File.{judge}
 use Rattle.clausetext.specs.declared.judge.Verdict.TheVariants.{Wrong, Fine}
 use Rattle.clausetext.specs.Syntax.{Clause}
 use Rattle.clausetext.specs.Texts.{Says, Verdicts}
@@ -24,8 +23,8 @@ use Rattle.smallest.proofs.Bounds.{goes_on, ends, none_left}
 use Rattle.answering.specs.declared.Options.{Options}
 use Rattle.answering.specs.Looking.{LookedUp, up_to, look_from, looked}
 use Rattle.answering.specs.Asking.{SaysOf, unasked, over, positive, answered, AskSays, unlimited, wrong, said}
-use Rattle.answering.specs.Promises.{OneText, AsSmallest, LookedAsSmallest}
-use Rattle.answering.proofs.Looking.{Empty, asked_tries, asked_none, look_last, look_ended, look_on}
+use Rattle.answering.specs.Promises.{OneText, LookedAsSmallest}
+use Rattle.answering.proofs.Looking.{Empty, asked_none, look_last, look_ended, look_on}
 
 -- one outcome
 said_once : {o : Options} {name text : List ℕ} {cs : List Clause} {a b : List ℕ} → SaysOf o name text cs a → SaysOf o name text cs b → a ≡ b

@@ -1,34 +1,31 @@
 -- A result as it is told, one law for each outcome, with premises as the code has them.
-use mathlib.Core.Bool.{Bool, true, false, cond}
-use mathlib.Core.List.{List, [], ◌∷◌, ◌++◌, map}
-use mathlib.Core.Path.{◌≡◌, refl, sym, ap, ◌∙◌}
-use Prim.Native.Nat.{ℕ, ◌≤◌}
+use mathlib.Core.Bool.{Bool, true, false}
+use mathlib.Core.List.{List, [], map}
+use mathlib.Core.Path.{◌≡◌, ap, ◌∙◌}
+use Prim.Native.Nat.{ℕ}
 use native.Mathlib.Omega.{arith}
 use borrow.Author.Tests.{eq-eqb, ne_eqb}
 use lib.ListN.{length, take, drop}
 use lib.Seq.{take-take}
 use Rattle.words.specs.Steps.{step_of}
 use Rattle.table.specs.Encode.{clause_words}
-use Rattle.table.specs.File.{judge, table_in}
+use Rattle.table.specs.File.{table_in}
 use Rattle.tuples.specs.Tuples.{answers_text}
-use Rattle.clausetext.specs.Syntax.{Clause}
 use Rattle.names.specs.Numbers.{Name}
 use Rattle.names.specs.Noting.{names_at}
-use Rattle.tptp.specs.Said.{table_said}
 use Rattle.text.specs.Put.{Put}
 use Rattle.text.specs.Quoted.{bytes}
 use Rattle.text.proofs.Putting.{begin, finish, then}
 use Rattle.naming.specs.Index.{clause_places}
-use Rattle.naming.specs.Noting.{Admissible, Indexed}
+use Rattle.naming.specs.Noting.{Indexed}
 use Rattle.naming.specs.Shown.{names_in, shown}
 use Rattle.written_proofs.specs.Steps.{steps_text}
 use Rattle.assistant.specs.Results.{none_text, ran_out_text, too_long_text, szs_text}
 use Rattle.assistant.specs.Results as Lines
-use Rattle.hukolearu.specs.declared.Outcome.{Outcome}
 use Rattle.answering.specs.declared.Options.{Options}
 use Rattle.answering.specs.declared.look.Looked.{Looked}
 use Rattle.answering.specs.Results.{paged, answer_text, clauses_text, proof_text, grounds_text, tuples_line, lines_text, found_text, end_text, result_text}
-use Rattle.answering.specs.Telling.{words_in, CutTo, Wordable, Holds, FoundIn, Told, as_looked}
+use Rattle.answering.specs.Telling.{words_in, CutTo, FoundIn, Told}
 use Rattle.answering.proofs.Wordings.{indexed_same}
 
 module _ {o₀ o₁ o₂ : List ℕ} {n₀ n₁ n₂ : ℕ} where

@@ -1,5 +1,5 @@
 -- The clauses behind a proof, line by line, with premises as the code has them.
-use mathlib.Core.List.{List, [], ◌∷◌, ◌++◌, map, append_assoc, append-nil}
+use mathlib.Core.List.{List, [], ◌∷◌, ◌++◌, append_assoc, append-nil}
 use mathlib.Core.Path.{◌≡◌, refl, sym, ap, ap₂, ◌∙◌}
 use Prim.Native.Nat.{ℕ, zero, suc, ◌+◌, ◌-◌, ◌≤◌, ◌<◌}
 use native.Mathlib.Numerals.{add-one}
@@ -10,11 +10,9 @@ use mir.Val.{Fits}
 use Rattle.words.specs.declared.Step.{Step}
 use Rattle.table.specs.Syntax.{Clause, Table}
 use Rattle.names.specs.Numbers.{Name}
-use Rattle.names.specs.Noting.{names_at}
 use Rattle.text.specs.Put.{Put}
 use Rattle.text.specs.Quoted.{bytes}
 use Rattle.text.proofs.Putting.{Left, begin, finish, further, then}
-use Rattle.naming.specs.Index.{IsNamed}
 use Rattle.assistant.specs.Results.{behind_text}
 use Rattle.listing.specs.Behind.{copied_by, Listed, if_copied, copied_from, copied, asked, listed}
 use Rattle.listing.specs.Counting.{Counters, Counted}

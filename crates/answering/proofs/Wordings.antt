@@ -1,12 +1,12 @@
 -- What is written depends only on the name that each number has.
 use mathlib.Core.Bool.{Bool, true, false, cond}
-use mathlib.Core.List.{List, [], ◌∷◌, ◌++◌, map}
-use mathlib.Core.Path.{◌≡◌, refl, sym, ap, ap₂, ◌∙◌}
+use mathlib.Core.List.{List, [], ◌∷◌, map}
+use mathlib.Core.Path.{◌≡◌, refl, sym, ap, ◌∙◌}
 use Prim.Native.Nat.{ℕ, zero, suc}
 use native.Mathlib.Omega.{arith}
 use lib.Dec.{eqb}
-use lib.ListN.{length, take, drop, get_or}
-use Rattle.words.specs.Fields.{kind_of, number_of, symbol_of, arity_of, negative_of}
+use lib.ListN.{length, get_or}
+use Rattle.words.specs.Fields.{kind_of, number_of, symbol_of, arity_of}
 use Rattle.words.specs.Steps.{step_of}
 use Rattle.words.specs.declared.Step.{Step}
 use Rattle.words.specs.declared.Step.TheVariants.{Reduction, Extension, Restart, Malformed}
@@ -17,18 +17,13 @@ use Rattle.tuples.proofs.Wordings.{answers_same}
 use Rattle.table.specs.File.{table_in}
 use Rattle.clausetext.specs.Syntax.{Clause}
 use Rattle.names.specs.Numbers.{Name}
-use Rattle.names.specs.Noting.{names_at}
 use Rattle.tptp.specs.Said.{table_said}
-use Rattle.text.specs.Quoted.{bytes}
 use Rattle.requests.specs.Pieces.{same_bytes}
-use Rattle.naming.specs.Index.{clause_places}
-use Rattle.naming.specs.Clauses.{file_names}
 use Rattle.naming.specs.Noting.{Admissible, Indexed}
-use Rattle.naming.specs.Shown.{Names, or_numbered, joint_text, sign_text, closing, closed, opening, opened, shown_by, shown}
-use Rattle.assistant.specs.Results.{szs_text, behind_text}
+use Rattle.naming.specs.Shown.{Names, closed, opened, shown_by, shown}
 use Rattle.listing.specs.Behind.{Listed, listed}
 use Rattle.written_proofs.specs.Steps.{begins, stands, only_from, tells, clause_text, text_of, step_text, steps_text}
-use Rattle.answering.specs.Results.{Wording, said_in, paged, answer_text, behind_lines, clauses_text, proof_text, grounds_text, tuples_line, lines_text, found_text}
+use Rattle.answering.specs.Results.{Wording, said_in, answer_text, behind_lines, clauses_text, proof_text, grounds_text, tuples_line, lines_text, found_text}
 use Rattle.answering.specs.Telling.{words_in}
 
 -- lists with the same names at the same numbers; past its end a list has empty ones

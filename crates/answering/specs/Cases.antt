@@ -1,7 +1,7 @@
 -- What `ask` writes, to the letter: document 01's case 1 as the clauses of a text, at(e,mat) or at(e,eve), and the question at(e,X).
 use Rattle.std.specs.Prelude.{Bool, true, false, List, [], ◌∷◌, ◌≡◌, ℕ}
 use Rattle.table.specs.Encode.{file_words}
-use Rattle.clausetext.specs.Syntax.{Term, variable, application, nil, ◌then◌, Axiom, NegatedConjecture, Clause}
+use Rattle.clausetext.specs.Syntax.{variable, application, nil, ◌then◌, Axiom, NegatedConjecture, Clause}
 use Rattle.tptp.specs.Said.{table_said}
 use Rattle.text.specs.Quoted.{bytes}
 use Rattle.answering.specs.declared.Options.{Options}

@@ -1,7 +1,6 @@
 -- What is promised of `ask`, beside its contract, which is Asks. Proved in proofs/Promises.
-use Rattle.std.specs.Prelude.{List, ◌⊎◌, ◌≡◌, ℕ, ◌≤◌}
+use Rattle.std.specs.Prelude.{List, ◌≡◌, ℕ, ◌≤◌}
 use Rattle.table.specs.File.{judge}
-use Rattle.hukolearu.specs.Calls.{Given}
 use Rattle.hukolearu.specs.CallDemands.{FoundStatus}
 use Rattle.asking.specs.Program.{question}
 use Rattle.smallest.specs.Smallest.{smallest_call}

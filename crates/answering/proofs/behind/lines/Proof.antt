@@ -1,10 +1,6 @@
 use borrow.Author.Rules.{rules}
 use Rattle.answering.proofs.behind.lines.Statement.{statement}
 use Rattle.answering.proofs.behind.lines.Tie as tie
-use Rattle.answering.proofs.behind.lines.Reads as reads
-use Rattle.answering.proofs.behind.lines.Lts as lts
-use Rattle.assistant.proofs.result.behind.Reads as behind-reads
-use Rattle.naming.proofs.lookup.name.Reads as name-reads
 use Prim.Native.Nat.{◌-◌}
 use Rattle.names.specs.Noting.{names_at}
 use Rattle.answering.proofs.Used.{Lining, line_laws}

@@ -1,9 +1,6 @@
 use borrow.Author.Rules.{rules}
 use Rattle.answering.proofs.look.at_bound.Statement.{statement}
 use Rattle.answering.proofs.look.at_bound.Tie as tie
-use Rattle.answering.proofs.look.at_bound.Reads as reads
-use Rattle.answering.proofs.look.at_bound.Lts as lts
-use Rattle.hukolearu.proofs.calls.search.Reads as search-reads
 use Rattle.answering.proofs.Looking.{bound_laws}
 
 ruleset all = (rules, bound_laws)

@@ -1,10 +1,6 @@
 use borrow.Author.Rules.{rules}
 use Rattle.answering.proofs.question.literals.Statement.{statement}
 use Rattle.answering.proofs.question.literals.Tie as tie
-use Rattle.answering.proofs.question.literals.Reads as reads
-use Rattle.answering.proofs.question.literals.Lts as lts
-use Rattle.words.proofs.fields.literals.Reads as literals-reads
-use Rattle.words.proofs.fields.wide.Reads as wide-reads
 use Rattle.answering.proofs.Asked.{literal_laws}
 
 ruleset all = (rules, literal_laws)

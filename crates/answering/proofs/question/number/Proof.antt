@@ -1,9 +1,6 @@
 use borrow.Author.Rules.{rules}
 use Rattle.answering.proofs.question.number.Statement.{statement}
 use Rattle.answering.proofs.question.number.Tie as tie
-use Rattle.answering.proofs.question.number.Reads as reads
-use Rattle.answering.proofs.question.number.Lts as lts
-use Rattle.words.proofs.fields.wide.Reads as wide-reads
 use Rattle.answering.proofs.Asked.{number_laws}
 
 ruleset all = (rules, number_laws)

@@ -1,9 +1,6 @@
 use borrow.Author.Rules.{rules}
 use Rattle.answering.proofs.refuse.questions.Statement.{statement}
 use Rattle.answering.proofs.refuse.questions.Tie as tie
-use Rattle.answering.proofs.refuse.questions.Reads as reads
-use Rattle.answering.proofs.refuse.questions.Lts as lts
-use Rattle.clausetext.proofs.judge.judge_text.Reads as judge-text-reads
 use Rattle.answering.proofs.Refusing.{question_laws}
 
 ruleset all = (rules, question_laws)

@@ -1,14 +1,6 @@
 use borrow.Author.Rules.{rules}
 use Rattle.answering.proofs.refuse.refusal.Statement.{statement}
 use Rattle.answering.proofs.refuse.refusal.Tie as tie
-use Rattle.answering.proofs.refuse.refusal.Reads as reads
-use Rattle.answering.proofs.refuse.refusal.Lts as lts
-use Rattle.answering.proofs.refuse.questions.Reads as questions-reads
-use Rattle.assistant.proofs.refusal.over.Reads as over_reads
-use Rattle.assistant.proofs.refusal.positive.Reads as positive-reads
-use Rattle.assistant.proofs.refusal.unasked.Reads as unasked-reads
-use Rattle.assistant.proofs.refusal.wrong.Reads as wrong-reads
-use Rattle.words.proofs.fields.wide.Reads as wide-reads
 use Rattle.answering.proofs.Refusing.{refusal_laws}
 
 ruleset all = (rules, refusal_laws)

@@ -1,10 +1,6 @@
 use borrow.Author.Rules.{rules}
 use Rattle.answering.proofs.tell.result.Statement.{statement}
 use Rattle.answering.proofs.tell.result.Tie as tie
-use Rattle.answering.proofs.tell.result.Reads as reads
-use Rattle.answering.proofs.tell.result.Lts as lts
-use Rattle.answering.proofs.tell.ended.Reads as ended-reads
-use Rattle.answering.proofs.tell.found_in.Reads as found-in-reads
 use Rattle.answering.proofs.Telling.{told_laws}
 
 ruleset all = (rules, told_laws)
