@@ -3,7 +3,7 @@ ghost use Rattle.std.specs.Prelude.{◌≡◌, length};
 
 use crate::arguments::Options;
 use crate::streams::Stream;
-use crate::{arguments, asking, draw, files, streams};
+use crate::{arguments, draw, files, streams, telling};
 use hukolearu::{Outcome, calls, status};
 use std::io;
 use text::{part, put};
@@ -32,7 +32,7 @@ fn ended(rt: &HostRuntime, drawn: bool, name: &[u8], status: &[u8]) -> io::Resul
     if drawn {
         return Ok(());
     }
-    asking::status_line(rt, name, status)
+    telling::status_line(rt, name, status)
 }
 
 fn refuse_proof(
@@ -42,11 +42,11 @@ fn refuse_proof(
     said: &[u8],
     reading: Reading,
 ) -> io::Result<()> {
-    let mut out = asking::page();
+    let mut out = telling::page();
     let place = reading.place;
     let awaited = reading.awaited;
     let n = unreadable::wrong(name, said, place, awaited, &mut out, 0);
-    asking::write(rt, said_to(drawn), &out, n)
+    telling::write(rt, said_to(drawn), &out, n)
 }
 
 fn refuse_long(rt: &HostRuntime, drawn: bool, name: &[u8]) -> io::Result<()> {
@@ -70,13 +70,13 @@ fn tell_accepted(
     steps: &[u32],
     answer: &[u32],
 ) -> io::Result<()> {
-    let mut out = asking::page();
+    let mut out = telling::page();
     let a = verdict::accepted(o.disjuncts, o.proof, &mut out, 0);
-    let b = asking::show_answer(text, index, asking::atoms(file), answer, &mut out, a);
+    let b = telling::show_answer(text, index, telling::atoms(file), answer, &mut out, a);
     let c = put::byte(&mut out, b, b'\n');
-    asking::write(rt, Stream::Output, &out, c)?;
-    asking::tell_behind(rt, text, index, file, limit, steps)?;
-    asking::status_line(rt, name, b"Unsatisfiable")
+    telling::write(rt, Stream::Output, &out, c)?;
+    telling::tell_behind(rt, text, index, file, limit, steps)?;
+    telling::status_line(rt, name, b"Unsatisfiable")
 }
 
 // A length, as far as a word holds it.
@@ -96,11 +96,11 @@ fn tell_too_long(
     limit: u32,
     steps: &[u32],
 ) -> io::Result<()> {
-    let mut out = asking::page();
+    let mut out = telling::page();
     let n = verdict::too_long(told(steps.len()), &mut out, 0);
-    asking::write(rt, Stream::Output, &out, n)?;
-    asking::tell_behind(rt, text, index, file, limit, steps)?;
-    asking::status_line(rt, name, b"Unsatisfiable")
+    telling::write(rt, Stream::Output, &out, n)?;
+    telling::tell_behind(rt, text, index, file, limit, steps)?;
+    telling::status_line(rt, name, b"Unsatisfiable")
 }
 
 // The first step that is wrong.
@@ -123,11 +123,11 @@ fn tell_refused(
     let mut bound = draw::bound_buffer();
     let taken = part::front(steps, wide(o.place));
     draw::bind(file, limit, taken, &mut bound);
-    let mut out = asking::page();
+    let mut out = telling::page();
     let n = verdict::refused(
         text, index, file, &bound, steps, limit, o.status, o.place, &mut out, 0,
     );
-    asking::write(rt, to, &out, n)
+    telling::write(rt, to, &out, n)
 }
 
 // What the checker says of the steps.
@@ -141,7 +141,7 @@ fn judge(
     limit: u32,
     steps: &[u32],
 ) -> io::Result<()> {
-    let mut answer = asking::answer_buffer();
+    let mut answer = telling::answer_buffer();
     let mut work = files::file_buffer();
     let o = calls::check_proof(file, limit, steps, &mut answer, &mut work);
     if o.status == status::DONE {
@@ -172,7 +172,7 @@ fn read_proof(
     proof: &[u8],
     said: &[u8],
 ) -> io::Result<()> {
-    let mut index = asking::index_buffer();
+    let mut index = telling::index_buffer();
     naming::index::index(text, &mut index);
     let mut steps = steps_buffer();
     let reading = read::proof(text, part::rest(&index, 8192), said, &mut steps);
@@ -205,7 +205,7 @@ fn read_text(
     let mut file = files::file_buffer();
     let read = tptp::call::read(text, &mut file);
     if read.status != 0 {
-        asking::refuse(rt, said_to(drawn), name, text, read)?;
+        telling::refuse(rt, said_to(drawn), name, text, read)?;
         return ended(rt, drawn, name, b"InputError");
     }
     if 65536 < said.len() {

@@ -3,7 +3,7 @@ ghost use Rattle.std.specs.Prelude.{◌≡◌, length};
 
 use crate::arguments::Options;
 use crate::streams::Stream;
-use crate::{arguments, asking, files, streams};
+use crate::{arguments, files, streams, telling};
 use assistant::convert;
 use std::io;
 use text::{part, put};
@@ -19,7 +19,7 @@ fn words_of(rt: &HostRuntime, name: &[u8], text: &[u8]) -> io::Result<()> {
     let mut file = files::file_buffer();
     let read = tptp::call::read(text, &mut file);
     if read.status != 0 {
-        return asking::refuse(rt, Stream::Error, name, text, read);
+        return telling::refuse(rt, Stream::Error, name, text, read);
     }
     write_words(rt, part::front(&file, wide(read.words)))
 }
@@ -104,7 +104,7 @@ fn slim_text(rt: &HostRuntime, name: &[u8], text: &[u8]) -> io::Result<()> {
     let mut file = files::file_buffer();
     let read = tptp::call::read(text, &mut file);
     if read.status != 0 {
-        return asking::refuse(rt, Stream::Error, name, text, read);
+        return telling::refuse(rt, Stream::Error, name, text, read);
     }
     let mut slimmer = files::file_buffer();
     let mut numbers = numbers_buffer();

@@ -2,7 +2,7 @@
 ghost use Rattle.std.specs.Prelude.{◌≡◌, length};
 
 use crate::streams::Stream;
-use crate::{asking, files};
+use crate::{files, telling};
 use drawing::graph;
 use std::io;
 
@@ -32,7 +32,7 @@ pub fn write(
     }
     let mut bound = bound_buffer();
     bind(file, limit, steps, &mut bound);
-    let mut out = asking::page();
+    let mut out = telling::page();
     let n = graph::draw(text, index, file, &bound, steps, &mut out, 0);
-    asking::write(rt, Stream::Output, &out, n)
+    telling::write(rt, Stream::Output, &out, n)
 }

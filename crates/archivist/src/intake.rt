@@ -2,7 +2,7 @@
 ghost use Rattle.std.specs.Prelude.{◌≡◌, length};
 
 use crate::streams::Stream;
-use crate::{arguments, asking, files};
+use crate::{arguments, files, telling};
 use assistant::refusal;
 use reports::records::{Fault, Wanted};
 use reports::{records, said};
@@ -25,24 +25,24 @@ fn tell(rt: &HostRuntime, text: &[u8], day: u32, house: u32) -> io::Result<()> {
     let n = records::gather(text, &mut words);
     let report = desk::ask_desk(part::front(&words, n), day, house, BUDGET, BUDGET, BUDGET);
     let v = desk::values(report);
-    let mut out = asking::page();
+    let mut out = telling::page();
     let m = said::report(&mut out, 0, day, house, report);
     if v.status == 0 {
-        return asking::write(rt, Stream::Output, &out, m);
+        return telling::write(rt, Stream::Output, &out, m);
     }
-    asking::write(rt, Stream::Error, &out, m)
+    telling::write(rt, Stream::Error, &out, m)
 }
 
 fn complain(rt: &HostRuntime, name: &[u8], text: &[u8], f: Fault) -> io::Result<()> {
-    let mut out = asking::page();
+    let mut out = telling::page();
     let n = said::wrong(&mut out, 0, name, text, f);
-    asking::write(rt, Stream::Error, &out, n)
+    telling::write(rt, Stream::Error, &out, n)
 }
 
 fn long(rt: &HostRuntime, name: &[u8], text: &[u8]) -> io::Result<()> {
-    let mut out = asking::page();
+    let mut out = telling::page();
     let n = refusal::wrong(&mut out, 0, name, text, 0);
-    asking::write(rt, Stream::Error, &out, n)
+    telling::write(rt, Stream::Error, &out, n)
 }
 
 fn answer(rt: &HostRuntime, name: &[u8], text: &[u8], day: u32, house: u32) -> io::Result<()> {

@@ -2,7 +2,6 @@
 #![tactic(auto)]
 
 mod arguments;
-mod asking;
 mod check;
 mod converting;
 mod draw;
@@ -10,13 +9,14 @@ mod files;
 mod intake;
 mod reporting;
 mod streams;
+mod telling;
 
 use std::io;
 
 fn main(rt: HostRuntime) -> io::Result<()> {
     let rt = &rt;
     if arguments::is(rt, 1, b"ask") {
-        return asking::ask(rt, arguments::asked(rt, 1));
+        return telling::ask(rt, arguments::asked(rt, 1));
     }
     if arguments::is(rt, 1, b"check") {
         return check::check(rt, false, arguments::offered(rt));

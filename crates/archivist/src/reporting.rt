@@ -3,7 +3,7 @@ ghost use Rattle.std.specs.Prelude.{◌≡◌, length};
 
 use crate::arguments::Options;
 use crate::streams::Stream;
-use crate::{arguments, asking, files};
+use crate::{arguments, files, telling};
 use assistant::{place, refusal};
 use clausetext::judge::{Verdict, judge_text};
 use clausetext::stuck;
@@ -80,20 +80,20 @@ fn tell_wrong(
     from: usize,
     place: usize,
 ) -> io::Result<Report> {
-    let mut out = asking::page();
+    let mut out = telling::page();
     let n = refusal::wrong_in(&mut out, 0, name, text, from, place);
-    asking::write(rt, Stream::Output, &out, n)?;
+    telling::write(rt, Stream::Output, &out, n)?;
     let mut space = [0u8; 4096];
     let m = label(&mut space, name, text, place);
-    asking::status_line(rt, part::front_bytes(&space, m), b"InputError")?;
+    telling::status_line(rt, part::front_bytes(&space, m), b"InputError")?;
     Ok(refused())
 }
 
 fn tell_no_question(rt: &HostRuntime, label: &[u8]) -> io::Result<Report> {
-    let mut out = asking::page();
+    let mut out = telling::page();
     let n = counts::no_question(&mut out, 0, label);
-    asking::write(rt, Stream::Output, &out, n)?;
-    asking::status_line(rt, label, b"InputError")?;
+    telling::write(rt, Stream::Output, &out, n)?;
+    telling::status_line(rt, label, b"InputError")?;
     Ok(refused())
 }
 
@@ -106,8 +106,8 @@ fn narrow(n: usize) -> u32 {
 
 // Bounds 0, 1, 2 up to the limit with one budget for all.
 fn put_question(file: &[u32], limit: u32, budget: u32) -> Report {
-    let mut proof = asking::proof_buffer();
-    let mut answer = asking::answer_buffer();
+    let mut proof = telling::proof_buffer();
+    let mut answer = telling::answer_buffer();
     let mut work = files::file_buffer();
     let least = smallest::smallest(file, limit, budget, &mut proof, &mut answer, &mut work);
     counts::alone(least.outcome)
@@ -120,10 +120,10 @@ fn tell(rt: &HostRuntime, label: &[u8], text: &[u8], r: Report) -> io::Result<()
     }
     let places = [at as u32];
     let name = lookup::name(text, &places, 0);
-    let mut out = asking::page();
+    let mut out = telling::page();
     let a = counts::question(&mut out, 0, label, name, r);
     let b = counts::szs(&mut out, a, name, r);
-    asking::write(rt, Stream::Output, &out, b)
+    telling::write(rt, Stream::Output, &out, b)
 }
 
 // A table's text with one clause behind it.
@@ -137,8 +137,8 @@ fn ask_joined(
     let mut file = files::file_buffer();
     let read = tptp::call::read(text, &mut file);
     if read.status != 0 {
-        asking::refuse(rt, Stream::Output, label, text, read)?;
-        asking::status_line(rt, label, b"InputError")?;
+        telling::refuse(rt, Stream::Output, label, text, read)?;
+        telling::status_line(rt, label, b"InputError")?;
         return Ok(refused());
     }
     let r = put_question(part::front(&file, wide(read.words)), limit, budget);
@@ -231,9 +231,9 @@ fn ask_table(
         list,
         questions,
     )?;
-    let mut out = asking::page();
+    let mut out = telling::page();
     let m = counts::report(&mut out, 0, name, o.limit, o.budget, total);
-    asking::write(rt, Stream::Output, &out, m)
+    telling::write(rt, Stream::Output, &out, m)
 }
 
 fn put_season(
@@ -252,22 +252,22 @@ fn put_season(
                 place: narrow(place),
                 words: 0,
             };
-            asking::refuse(rt, Stream::Output, name, text, read)?;
-            asking::status_line(rt, name, b"InputError")
+            telling::refuse(rt, Stream::Output, name, text, read)?;
+            telling::status_line(rt, name, b"InputError")
         }
         Verdict::Fine(_, _) => ask_table(rt, o, name, text, list, questions),
     }
 }
 
 fn complain(rt: &HostRuntime, name: &[u8]) -> io::Result<()> {
-    let mut out = asking::page();
+    let mut out = telling::page();
     let n = place::both(
         &mut out,
         0,
         name,
         b": the questions are longer than 262144 bytes\n",
     );
-    asking::write(rt, Stream::Error, &out, n)
+    telling::write(rt, Stream::Error, &out, n)
 }
 
 fn with_questions(rt: &HostRuntime, o: Options, name: &[u8], text: &[u8]) -> io::Result<()> {
