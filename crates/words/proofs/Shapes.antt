@@ -1,5 +1,5 @@
 -- The outcomes of the tests of a word's shape, one law for each, with premises as the code has them.
-use Rattle.std.proofs.Common.{◌≡◌, ℕ, ◌-◌, ◌≤◌, Bool, true, false, eqb, leb, sym, refl, ap, ◌∙◌, eq-eqb, ne_eqb}
+use Rattle.std.proofs.Common.{◌≡◌, ℕ, ◌-◌, Bool, true, false, eqb, leb, sym, ◌∙◌, eq-eqb, ne_eqb}
 use Rattle.words.specs.Fields.{bits, kind_of, arity_of, literals_of, variables_of, following_of, plain, function_shaped, literal_shaped, counted, clause_shaped}
 
 module _ (kind from w : ℕ) where

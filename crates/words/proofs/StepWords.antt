@@ -1,5 +1,5 @@
 -- The outcomes of decoding and encoding a step, one law for each, with premises as the code has them.
-use Rattle.std.proofs.Common.{◌≡◌, ℕ, ◌+◌, ◌*◌, ◌^◌, ◌<◌, ◌≤◌, Bool, true, false, not, sym, refl, ap, ◌∙◌, arith, le-ltb, lt-ltb, eq-eqb, ne_eqb, le-leb}
+use Rattle.std.proofs.Common.{◌≡◌, ℕ, ◌+◌, ◌*◌, ◌^◌, ◌<◌, ◌≤◌, Bool, true, false, not, sym, ◌∙◌, arith, le-ltb, lt-ltb, eq-eqb, ne_eqb, le-leb}
 use borrow.Author.Tests.{not-true, not-false, lt-leb}
 use Rattle.words.specs.Fields.{bits, plain}
 use Rattle.words.specs.Steps.{well_formed, step_word, encoded, step_of, step_read}

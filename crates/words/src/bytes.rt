@@ -31,15 +31,14 @@ fn least(a: usize, b: usize) -> usize
 }
 
 // Puts the words of the bytes at the front of a buffer, as many as it has room for; later words stay as they are.
+#[tactic(auto, using(crate::proofs::Gathered::stored))]
 pub fn gather(bytes: &[u8], out: &mut [u32]) -> usize
     ensures value { result ≡ min (length bytes.now / 4) (length out.old) }
     ensures out_after { out.new ≡ take result (words_of bytes.now) ++ drop result out.old }
 {
     let n = least(bytes.len() / 4, out.len());
-    let mut i = 0;
-    while i < n {
+    for i in 0..n {
         out[i] = word_at(bytes, i * 4);
-        i += 1;
     }
     n
 }

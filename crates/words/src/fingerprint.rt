@@ -44,26 +44,24 @@ pub fn mix_word(h: u32, w: u32) -> u32
     mix_part(third, w, 24)
 }
 
+#[tactic(auto, using(crate::proofs::Fingerprints::begin_words, crate::proofs::Fingerprints::turn_words, crate::proofs::Fingerprints::finish_words))]
 pub fn of_words(words: &[u32]) -> u32
     ensures { result ≡ fingerprint words.now }
 {
     let mut h = BASIS;
-    let mut i = 0;
-    while i < words.len() {
-        h = mix_word(h, words[i]);
-        i += 1;
+    for w in words {
+        h = mix_word(h, *w);
     }
     h
 }
 
+#[tactic(auto, using(crate::proofs::Fingerprints::begin_bytes, crate::proofs::Fingerprints::turn_bytes, crate::proofs::Fingerprints::finish_bytes))]
 pub fn of_bytes(text: &[u8]) -> u32
     ensures { result ≡ fnv text.now }
 {
     let mut h = BASIS;
-    let mut i = 0;
-    while i < text.len() {
-        h = mix_byte(h, small(text[i]));
-        i += 1;
+    for b in text {
+        h = mix_byte(h, small(*b));
     }
     h
 }
