@@ -1,6 +1,6 @@
 -- Machinery: what the functions of the checker promise one another, and what its verdict stands for. No public contract speaks of it.
-use Rattle.std.specs.Prelude.{Bool, true, false, cond, List, ◌≡◌, ℕ, ◌+◌, ◌-◌, ◌≤◌, ◌<◌, eqb, length}
-use Rattle.std.proofs.Math.Option.{Option, none, some}
+use Rattle.std.specs.Prelude.{Option, Some, None, Bool, true, false, cond, List, ◌≡◌, ℕ, ◌+◌, ◌-◌, ◌≤◌, ◌<◌, eqb, length}
+use Rattle.std.proofs.Math.Option.{Option as Maybe, none, some}
 use Rattle.std.proofs.Math.ListN.{get_elem?}
 use Rattle.words.specs.declared.Step.{Step}
 use Rattle.words.specs.declared.Step.TheVariants.{Reduction, Extension, Restart, Malformed as AMalformed}
@@ -17,8 +17,6 @@ use Rattle.tableaux.specs.Ready.{Ready, Stands, Later}
 use Rattle.tableaux.specs.Entering.{Enters}
 use Rattle.index.specs.Noting.{Indexed}
 use Rattle.index.specs.declared.entries.Scan.{Scan}
-use Rattle.index.specs.declared.entries.Candidate.{Candidate}
-use Rattle.index.specs.declared.entries.Candidate.TheVariants.{Entry, Done}
 use Rattle.engine.specs.Ended.{setting_for, Ended}
 use Rattle.tableaux.specs.declared.tableau.Place.{Place}
 use Rattle.unification.specs.declared.unify.Meeting.{Meeting}
@@ -39,7 +37,7 @@ Upward m leaves = (c : ℕ) → c < leaves → parent_at m c ≤ c
 abbrev pub lineage : List ℕ → ℕ → List ℕ
 lineage m head = chain (literal_at m) (parent_at m) head head
 
-abbrev pub above_of : Option ℕ → Above
+abbrev pub above_of : Maybe ℕ → Above
 above_of none = Nothing
 above_of (some reference) = At reference
 
@@ -65,9 +63,9 @@ pub record LocatedAt (f : List ℕ) (clause literal : ℕ) (s : Scan) : Type 0 w
   pub clauses : s.clauses ≡ clause + 1
   pub literals : s.literals ≡ literal
 
-abbrev pub Located : List ℕ → ℕ → ℕ → Candidate → Type 0
-Located f clause literal (Entry s) = LocatedAt f clause literal s
-Located f clause literal Done = (c : Clause) → get_elem? (all_clauses (table_in f)) clause ≡ some c → get_elem? c.literals literal ≡ none
+abbrev pub Located : List ℕ → ℕ → ℕ → Option Scan → Type 0
+Located f clause literal (Some s) = LocatedAt f clause literal s
+Located f clause literal None = (c : Clause) → get_elem? (all_clauses (table_in f)) clause ≡ some c → get_elem? c.literals literal ≡ none
 
 -- the copy that a step makes, if it makes one, and its clause
 abbrev pub Copies : List ℕ → List ℕ → List ℕ → Step → Type 0

@@ -1,5 +1,5 @@
 -- Machinery: how the search over the work words goes along with the rules' own. No public contract speaks of it.
-use Rattle.std.specs.Prelude.{Bool, true, cond, not, ◌&&◌, List, [], ◌∷◌, ◌++◌, map, ◌≡◌, ℕ, suc, ◌+◌, ◌*◌, ◌-◌, ◌/◌, ◌^◌, ◌≤◌, ◌<◌, eqb, leb, ltb, length, take, drop, get_or, set}
+use Rattle.std.specs.Prelude.{Option, Some, None, Bool, true, cond, not, ◌&&◌, List, [], ◌∷◌, ◌++◌, map, ◌≡◌, ℕ, suc, ◌+◌, ◌*◌, ◌-◌, ◌/◌, ◌^◌, ◌≤◌, ◌<◌, eqb, leb, ltb, length, take, drop, get_or, set}
 use Rattle.std.proofs.Math.Option.{some}
 use Rattle.words.specs.Steps.{step_word}
 use Rattle.words.specs.declared.Step.{Step}
@@ -26,8 +26,6 @@ use Rattle.index.specs.Places.{scanned_place, most_noted}
 use Rattle.index.specs.Noting.{keys_in, scans_in, ahead, count_at, Linked}
 use Rattle.index.specs.Scanning.{other_sign, entries_from}
 use Rattle.index.specs.declared.entries.Scan.{Scan}
-use Rattle.index.specs.declared.entries.Candidate.{Candidate}
-use Rattle.index.specs.declared.entries.Candidate.TheVariants.{Entry, Done}
 use Rattle.tableaux.specs.Entering.{Enters, extension_at}
 use Rattle.engine.specs.declared.Conditions.{Conditions}
 use Rattle.engine.specs.declared.search.Ending.{Ending}
@@ -201,9 +199,9 @@ Rowed f m m' task place budget r steps =
     Runs f m m' task place budget r (λ depth p. row (plays (setting_at f task)) depth budget p steps)
 
 -- where a scan has come to, and the cost of scans with one more that passed so many words, up to a limit
-abbrev pub reached_by : Candidate → ℕ → ℕ
-reached_by (Entry s) body = s.at
-reached_by Done body = body
+abbrev pub reached_by : Option Scan → ℕ → ℕ
+reached_by (Some s) body = s.at
+reached_by None body = body
 
 unfoldable pub costing : List ℕ → ℕ → ℕ → List ℕ
 costing m limit words = cond (ltb (get_or m scanned_place 0) limit) (set m scanned_place (get_or m scanned_place 0 + words + 16)) m

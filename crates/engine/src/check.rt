@@ -9,7 +9,7 @@ ghost use Rattle.index.specs.Scanning.{other_sign};
 ghost use Rattle.engine.specs.Checking.{Upward, lineage, above_of, judged_by, status_for, NotedFor, Located, read_for, restarts_leaf, Checked, Decided};
 
 use crate::{Conditions, profile, walk};
-use index::entries::Candidate;
+use index::entries::Scan;
 use index::{entries, notes};
 use tableaux::tableau;
 use tableaux::tableau::{Place, Taken};
@@ -132,7 +132,7 @@ pub fn prepare(file: &[u32], work: &mut [u32], noted: bool)
 }
 
 // The literal of a number in the clause of a number, by the notes or by a walk.
-fn entered(file: &[u32], work: &[u32], noted: bool, clause: u32, literal: u32) -> Candidate
+fn entered(file: &[u32], work: &[u32], noted: bool, clause: u32, literal: u32) -> Option<Scan>
     requires { ((judge file.now).status ≡ 0) × NotedFor noted file.now work.now × (clause < 512) }
     ensures { Located file.now clause literal result }
 {
@@ -162,7 +162,7 @@ fn extension(
         return Judged::NotAllowed;
     }
     let found = entered(file, work, noted, clause, literal);
-    let Candidate::Entry(entry) = found else {
+    let Some(entry) = found else {
         return Judged::NotAllowed;
     };
     let at = entry.at;

@@ -13,7 +13,7 @@ ghost use Rattle.engine.specs.Searching.{without, Treats, Wanted, extends_at, Al
 ghost use Rattle.engine.specs.Nowhere.{Opening, Vain};
 
 use crate::{Conditions, profile, vain};
-use index::entries::{Candidate, Scan};
+use index::entries::Scan;
 use index::{entries, links, notes, places, scanning};
 use tableaux::tableau;
 use tableaux::tableau::{Place, Taken};
@@ -192,17 +192,17 @@ fn in_vain(file: &[u32], work: &[u32], task: Task, place: Place, symbol: u32, sc
 }
 
 // Where a scan has come to: a literal, or the end of the body.
-fn reached(found: Candidate, body: u32) -> u32
+fn reached(found: Option<Scan>, body: u32) -> u32
     ensures { result ≡ reached_by found body }
 {
     match found {
-        Candidate::Entry(scan) => scan.at,
-        Candidate::Done => body,
+        Some(scan) => scan.at,
+        None => body,
     }
 }
 
 // The next literal with a word, by a scan. What the scans of a search cost is counted, until it is as much as passing the body's words.
-fn sought(file: &[u32], work: &mut [u32], body: u32, wanted: u32, from: Scan) -> Candidate
+fn sought(file: &[u32], work: &mut [u32], body: u32, wanted: u32, from: Scan) -> Option<Scan>
     requires { (length work.old ≡ work_words) × (body ≤ length file.now) × (body ≤ 16000) × (kind_of wanted ≡ 2) × Standing (take body file.now) from }
     ensures { IsNext (take body file.now) wanted from result × (work.new ≡ costing work.old body (reached_by result body - from.at)) }
 {
@@ -245,7 +245,7 @@ fn extensions_by_scan(
         return without(Ending::Out, tries);
     }
     let candidate = sought(file, work, task.body, wanted, from);
-    let Candidate::Entry(entry) = candidate else {
+    let Some(entry) = candidate else {
         return without(Ending::Nothing, tries);
     };
     if tries == 0 {

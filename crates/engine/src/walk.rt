@@ -8,7 +8,7 @@ ghost use Rattle.table.specs.Readers.{BeginsAt};
 ghost use Rattle.tableaux.specs.Leaves.{offsets_at};
 ghost use Rattle.engine.specs.Checking.{Located};
 
-use index::entries::{Candidate, Scan};
+use index::entries::Scan;
 use words::fields;
 
 // Where the clause of a number begins.
@@ -47,21 +47,21 @@ fn offset_of(file: &[u32], start: usize, literal: u32) -> u32
 }
 
 // The literal of a number in the clause of a number.
-pub fn entry(file: &[u32], clause: u32, literal: u32) -> Candidate
+pub fn entry(file: &[u32], clause: u32, literal: u32) -> Option<Scan>
     requires { ((judge file.now).status ≡ 0) × (clause < 512) }
     ensures { Located file.now clause literal result }
 {
     let end = file.len() - 4;
     if file[end + 1] <= clause {
-        return Candidate::Done;
+        return None;
     }
     let start = start_of(&file[..end], fields::wide(clause));
     if fields::literals(file[start]) <= literal {
-        return Candidate::Done;
+        return None;
     }
     let offset = offset_of(file, start, literal);
     let begin = start as u32;
-    Candidate::Entry(Scan {
+    Some(Scan {
         at: begin + offset,
         clauses: clause + 1,
         start: begin,

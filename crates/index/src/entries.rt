@@ -13,12 +13,6 @@ pub struct Scan {
     pub literals: u32,
 }
 
-#[derive(Clone, Copy)]
-pub enum Candidate {
-    Entry(Scan),
-    Done,
-}
-
 pub fn beginning() -> Scan
     ensures { result ≡ begun }
 {

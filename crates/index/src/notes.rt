@@ -5,7 +5,7 @@ ghost use Rattle.index.specs.Places.{most_noted};
 ghost use Rattle.index.specs.Scanning.{IsEntry};
 ghost use Rattle.index.specs.Noting.{plain_from, moved_to, Fits, Few, packed, noted, Unpacks, unpacked, Indexed};
 
-use crate::entries::{Candidate, Scan};
+use crate::entries::Scan;
 use crate::{entries, places};
 use words::fields;
 
@@ -93,21 +93,21 @@ pub fn unpacked(work: &[u32], number: u32) -> Scan
 }
 
 // The literal of a number in the clause of a number.
-pub fn entry(work: &[u32], clause: u32, literal: u32) -> Candidate
+pub fn entry(work: &[u32], clause: u32, literal: u32) -> Option<Scan>
     requires { ((f : List ℕ) × (body : ℕ) × Indexed f body work.now) × (clause < 512) }
     ensures { (f : List ℕ) (body : ℕ) → Indexed f body work.now → IsEntry (take body f) clause literal result }
 {
     let count = work[places::NOTED];
     let first = work[places::CLAUSES + fields::wide(clause)];
     if count <= first {
-        return Candidate::Done;
+        return None;
     }
     if count - first <= literal {
-        return Candidate::Done;
+        return None;
     }
     let scan = unpacked(work, first + literal);
     if scan.clauses != clause + 1 {
-        return Candidate::Done;
+        return None;
     }
-    Candidate::Entry(scan)
+    Some(scan)
 }

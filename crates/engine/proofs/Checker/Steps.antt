@@ -2,7 +2,7 @@
 use mathlib.Core.Path.{◌≡◌, refl, sym, ap, ◌∙◌}
 use mathlib.Core.Bool.{Bool, true, false, cond, ◌&&◌}
 use mathlib.Core.List.{List, [], ◌∷◌, map}
-use mathlib.Core.Option.{Option, none, some}
+use mathlib.Core.Option.{Option as Maybe, none, some}
 use Prim.Native.Nat.{ℕ, zero, suc, ◌+◌, ◌-◌, ◌/◌, ◌≤◌, ◌<◌}
 use native.Mathlib.Omega.{arith}
 use borrow.Author.Tests.{eq-eqb, ne_eqb, le-ltb, eqb-true, eqb-false}
@@ -34,8 +34,7 @@ use Rattle.engine.specs.Ended.{setting_for}
 use Rattle.engine.specs.declared.Conditions.{Conditions}
 use Rattle.engine.specs.Checking.{Upward, lineage, above_of, judged_by, LocatedAt, Located, Moved, Moves, PlayAt, Says, read_for, restarts_leaf, Checked}
 use Rattle.index.specs.declared.entries.Scan.{Scan}
-use Rattle.index.specs.declared.entries.Candidate.{Candidate}
-use Rattle.index.specs.declared.entries.Candidate.TheVariants.{Entry, Done}
+use Rattle.std.specs.Prelude.{Option, Some, None}
 use Rattle.tableaux.specs.declared.tableau.Place.{Place}
 use Rattle.tableaux.specs.declared.tableau.Taken.{Taken}
 use Rattle.unification.specs.declared.unify.Meeting.{Meeting}
@@ -101,11 +100,11 @@ module _ (conditions : Conditions) (w : ℕ) where
   restart-refused e = rw e
 
 -- steps that the rules do not allow
-within_none : {A : Type 0} (b : Bool) (o : Option A) → o ≡ none → cond b o none ≡ none
+within_none : {A : Type 0} (b : Bool) (o : Maybe A) → o ≡ none → cond b o none ≡ none
 within_none true o e = e
 within_none false o e = refl
 
-none_within : {A : Type 0} (b : Bool) (o : Option A) → cond (b && false) o none ≡ none
+none_within : {A : Type 0} (b : Bool) (o : Maybe A) → cond (b && false) o none ≡ none
 none_within true o = refl
 none_within false o = refl
 
@@ -158,7 +157,7 @@ module _ (S : Setting) (x : Tableau) where
     unfolding stepped treated extended entered
     extension-unfit i j c a f = rw l (within_none (may_extend S x.extensions leaf) _ (rw (c, a, f)))
 
-    extended_none : (i j : ℕ) (o : Option Clause) → ((c : Clause) → o ≡ some c → get_elem? c.literals j ≡ none) → extended S.table x leaf rest i j o ≡ none
+    extended_none : (i j : ℕ) (o : Maybe Clause) → ((c : Clause) → o ≡ some c → get_elem? c.literals j ≡ none) → extended S.table x leaf rest i j o ≡ none
     unfolding extended entered copy_of
     extended_none i j none h = refl
     extended_none i j (some c) h = rw (absent (literal_under (fresh (suc x.extensions))) c.literals j (h c refl))
@@ -228,11 +227,11 @@ module _ {f m : List ℕ} {place : Place} (ready : Ready f m place) (n : place.h
   branch-references : leaf.branch ≡ map (literal_at_reference f m) references
   branch-references = chain_map (literal_at_reference f m) (literal_at m) (parent_at m) (place.head - 1) (parent_at m (place.head - 1))
 
-  missing : (o : Option ℕ) → Nothing ≡ above_of o → o ≡ none
+  missing : (o : Maybe ℕ) → Nothing ≡ above_of o → o ≡ none
   missing none e = refl
   missing (some r) e = cc
 
-  found : (o : Option ℕ) {r : ℕ} → At r ≡ above_of o → o ≡ some r
+  found : (o : Maybe ℕ) {r : ℕ} → At r ≡ above_of o → o ≡ some r
   found none e = cc
   found (some q) e = cc
 
@@ -335,14 +334,14 @@ module _ {f m : List ℕ} {place : Place} (ready : Ready f m place) (conditions 
         unallowed conditions word (extension-refused conditions word s)
         (λ p st. rw s (extension-over (setting_for f conditions) p.tableau (leaf ready n) (right ready n) (first_leaf ready n p st) clause literal (omega (arith, st.extensions))))
 
-    module _ (q : Candidate) (h : Located f clause literal q) where
-      pub extend_missing : q ≡ Done → Checked f m m conditions place word NotAllowed
+    module _ (q : Option Scan) (h : Located f clause literal q) where
+      pub extend_missing : q ≡ None → Checked f m m conditions place word NotAllowed
       extend_missing e =
           let gone : (c : Clause) → get_elem? (all_clauses (table_in f)) clause ≡ some c → get_elem? c.literals literal ≡ none = rw e at h in
           unallowed conditions word (extension-refused conditions word s)
           (λ p st. rw s (extension-none (setting_for f conditions) p.tableau (leaf ready n) (right ready n) (first_leaf ready n p st) clause literal gone))
 
-      module _ {scan : Scan} (g : q ≡ Entry scan) where
+      module _ {scan : Scan} (g : q ≡ Some scan) where
         entry : LocatedAt f clause literal scan
         entry = rw g at h
 

@@ -18,7 +18,7 @@ use Rattle.rules.specs.Substitution.{Variable}
 use Rattle.rules.specs.Order.{extensions}
 use Rattle.unification.specs.State.{own_words}
 use Rattle.index.specs.declared.entries.Scan.{Scan}
-use Rattle.index.specs.declared.entries.Candidate.TheVariants.{Done}
+use Rattle.std.specs.Prelude.{None}
 use Rattle.tableaux.specs.Leaves.{offsets_at}
 use Rattle.index.specs.Scanning.{begun, entries_from, Standing, entry_from, EntryAt, other_sign}
 use Rattle.tableaux.specs.Entering.{extension_at, literal_from, LiteralAt, Enters, Owes}
@@ -46,7 +46,7 @@ module _ (f : List ℕ) (n : ℕ) (fits : n ≤ length f) (r : Readable (take n 
     pub entry_enters : Enters f (table_of (take n f)) (last_of 0 (starts 0 0 (take n f))) s
     entry_enters = enters f n fits r e.standing e.inside e.kind
 
-  pub entry_none : (clause number : ℕ) → entry_from clause number begun (take n f) ≡ Done → (c : Clause) → get_elem? (all_clauses (table_of (take n f))) clause ≡ some c
+  pub entry_none : (clause number : ℕ) → entry_from clause number begun (take n f) ≡ None → (c : Clause) → get_elem? (all_clauses (table_of (take n f))) clause ≡ some c
       → get_elem? c.literals number ≡ none
   entry_none clause number d c e = no_entry clause number (take n f) r d c e
 

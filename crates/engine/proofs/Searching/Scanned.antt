@@ -10,19 +10,18 @@ use lib.ListN.{length, take, get_or, set}
 use Rattle.index.specs.Places.{scanned_place}
 use Rattle.index.specs.Scanning.{Standing, IsNext}
 use Rattle.index.specs.declared.entries.Scan.{Scan}
-use Rattle.index.specs.declared.entries.Candidate.{Candidate}
-use Rattle.index.specs.declared.entries.Candidate.TheVariants.{Entry, Done}
+use Rattle.std.specs.Prelude.{Option, Some, None}
 use Rattle.index.proofs.Scans.{body_length, standing_most}
 use Rattle.engine.specs.Searching.{reached_by, costing, gives_up}
 
 module _ (f : List ℕ) (body wanted : ℕ) (from : Scan) (fits : body ≤ length f) (standing : Standing (take body f) from) where
-  pub reach_least : (found : Candidate) → IsNext (take body f) wanted from found → from.at ≤ reached_by found body
-  reach_least (Entry s) next = next.later
-  reach_least Done none = standing_most f body fits standing
+  pub reach_least : (found : Option Scan) → IsNext (take body f) wanted from found → from.at ≤ reached_by found body
+  reach_least (Some s) next = next.later
+  reach_least None none = standing_most f body fits standing
 
-  pub reach_most : (found : Candidate) → IsNext (take body f) wanted from found → reached_by found body ≤ body
-  reach_most (Entry s) next = omega (arith, next.inside, body_length f body fits)
-  reach_most Done none = omega arith
+  pub reach_most : (found : Option Scan) → IsNext (take body f) wanted from found → reached_by found body ≤ body
+  reach_most (Some s) next = omega (arith, next.inside, body_length f body fits)
+  reach_most None none = omega arith
 
 module _ (m : List ℕ) (limit : ℕ) where
   pub costs_more : {come reached : ℕ} (at : ℕ) → come ≡ reached → get_or m scanned_place 0 < limit
