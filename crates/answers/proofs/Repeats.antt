@@ -26,8 +26,9 @@ use Rattle.rules.proofs.Unify.Tests.{decide, never}
 use Rattle.unification.specs.Places.{most_references, value_end, kept_places, count_place, work_words, most_copies, copies_place}
 use Rattle.unification.specs.State.{start_at, copies_of, count_of, own_words, literal_at_reference, bindings_of, bindings_in}
 use Rattle.unification.specs.Good.{word_at, Inside, Same, Good, Alike, Outcome, Met, Undone}
-use Rattle.unification.specs.declared.unify.Meeting.{Meeting}
-use Rattle.unification.specs.declared.unify.Meeting.TheVariants.{Made, Clash, Circle}
+use Rattle.unification.specs.declared.unify.Unmet.{Unmet}
+use Rattle.unification.specs.declared.unify.Unmet.TheVariants.{Clash, Circle}
+use Rattle.std.specs.Prelude.{Result, Ok, Err}
 use Rattle.unification.proofs.Push.{same_none, same_then}
 use Rattle.tableaux.specs.Leaves.{questions_among}
 use Rattle.answers.specs.Writing.{resolved, kept_at, kept_among, disjunct_at, disjuncts_kept}
@@ -59,7 +60,7 @@ unfolding bindings_of
 bindings_length f m zero = refl
 bindings_length f m (suc n) = ap suc (bindings_length f m n)
 
-module _ {f m : List ℕ} {l r : ℕ} (h : Good f m) (a : Alike f m l r) {m₁ m' : List ℕ} {met : Meeting}
+module _ {f m : List ℕ} {l r : ℕ} (h : Good f m) (a : Alike f m l r) {m₁ m' : List ℕ} {met : Result (Unit {0}) Unmet}
     (q : Met f m m₁ met (unify (bindings_in f m) (atom (literal_at_reference f m l)) (atom (literal_at_reference f m r)))) (u : Undone f m₁ m' (count_of m)) where
   abbrev here : Literal Variable
   here = literal_at_reference f m l
@@ -81,19 +82,18 @@ module _ {f m : List ℕ} {l r : ℕ} (h : Good f m) (a : Alike f m l r) {m₁ m
   equation : same_literal (said_at f m l) (said_at f m r) ≡ true → under (resolved f m) (atom here) ≡ under (resolved f m) (atom there)
   equation e = equal_said (resolved f m) here there (literal_equal (said_at f m l) (said_at f m r) e)
 
-  not_made : (k : Meeting) → met ≡ k → (k ≡ Made → ⊥) → same_literal (said_at f m l) (said_at f m r) ≡ true → ⊥
-  not_made Made e n s = n refl
-  not_made Clash e n s =
+  not_made : (e : Unmet) → met ≡ Err e → same_literal (said_at f m l) (said_at f m r) ≡ true → ⊥
+  not_made Clash e s =
       answers.clashes (rw e at q.outcome) (solution (bindings_in f m)) (solution_satisfies (bindings_in f m) h.sound) (equation s)
-  not_made Circle e n s =
+  not_made Circle e s =
       answers.circles (rw e at q.outcome) (solution (bindings_in f m)) (solution_satisfies (bindings_in f m) h.sound) (equation s)
 
   -- they cannot be made equal
-  pub atoms_apart : (met ≡ Made → ⊥) → Compared f m m' false (same_literal (said_at f m l) (said_at f m r))
-  atoms_apart n = record { still = still; outcome = not_so _ (not_made met refl n) }
+  pub atoms_apart : {e : Unmet} → met ≡ Err e → Compared f m m' false (same_literal (said_at f m l) (said_at f m r))
+  atoms_apart {e} is = record { still = still; outcome = not_so _ (not_made e is) }
 
   -- something was bound to make them equal
-  pub atoms_bound : met ≡ Made → (count_of m₁ ≡ count_of m → ⊥) → Compared f m m' false (same_literal (said_at f m l) (said_at f m r))
+  pub atoms_bound : met ≡ Ok tt → (count_of m₁ ≡ count_of m → ⊥) → Compared f m m' false (same_literal (said_at f m l) (said_at f m r))
   atoms_bound e n =
       let o : unify (bindings_in f m) (atom here) (atom there) ≡ made (bindings_in f m₁) = rw e at q.outcome in
       record {
@@ -105,7 +105,7 @@ module _ {f m : List ℕ} {l r : ℕ} (h : Good f m) (a : Alike f m l r) {m₁ m
       }
 
   -- nothing was
-  pub atoms_same : met ≡ Made → count_of m₁ ≡ count_of m → Compared f m m' true (same_literal (said_at f m l) (said_at f m r))
+  pub atoms_same : met ≡ Ok tt → count_of m₁ ≡ count_of m → Compared f m m' true (same_literal (said_at f m l) (said_at f m r))
   atoms_same e n =
       let o : unify (bindings_in f m) (atom here) (atom there) ≡ made (bindings_in f m₁) = rw e at q.outcome in
       let same : bindings_in f m₁ ≡ bindings_in f m = ap (bindings_of f m₁) n ∙ q.grown.older (count_of m) (omega arith) in

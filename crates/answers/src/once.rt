@@ -6,7 +6,6 @@ ghost use Rattle.unification.specs.Good.{Good, Alike};
 ghost use Rattle.answers.specs.Writing.{disjunct_at};
 ghost use Rattle.answers.specs.Repeats.{said_at, Compared, Twins, said_before, Next, Weighed, Chose};
 
-use unification::unify::Meeting;
 use unification::{memory, unify};
 use words::fields;
 
@@ -19,7 +18,7 @@ fn same_atom(file: &[u32], work: &mut [u32], left: u32, right: u32) -> bool
     let met = unify::meet_atoms(file, work, left, right);
     let bound = work[memory::COUNT];
     unify::undo(work, kept);
-    let Meeting::Made = met else {
+    let Ok(()) = met else {
         return false;
     };
     if bound != kept {

@@ -1,5 +1,5 @@
 -- Machinery: what the functions of the checker promise one another, and what its verdict stands for. No public contract speaks of it.
-use Rattle.std.specs.Prelude.{Option, Some, None, Bool, true, false, cond, List, ◌≡◌, ℕ, ◌+◌, ◌-◌, ◌≤◌, ◌<◌, eqb, length}
+use Rattle.std.specs.Prelude.{Result, Ok, Err, Option, Some, None, Bool, true, false, cond, List, ◌≡◌, ℕ, ◌+◌, ◌-◌, ◌≤◌, ◌<◌, eqb, length}
 use Rattle.std.proofs.Math.Option.{Option as Maybe, none, some}
 use Rattle.std.proofs.Math.ListN.{get_elem?}
 use Rattle.words.specs.declared.Step.{Step}
@@ -19,8 +19,8 @@ use Rattle.index.specs.Noting.{Indexed}
 use Rattle.index.specs.declared.entries.Scan.{Scan}
 use Rattle.engine.specs.Ended.{setting_for, Ended}
 use Rattle.tableaux.specs.declared.tableau.Place.{Place}
-use Rattle.unification.specs.declared.unify.Meeting.{Meeting}
-use Rattle.unification.specs.declared.unify.Meeting.TheVariants.{Made, Clash, Circle}
+use Rattle.unification.specs.declared.unify.Unmet.{Unmet}
+use Rattle.unification.specs.declared.unify.Unmet.TheVariants.{Clash, Circle}
 use Rattle.engine.specs.declared.Conditions.{Conditions}
 use Rattle.engine.specs.declared.check.Above.{Above}
 use Rattle.engine.specs.declared.check.Above.TheVariants.{At, Nothing}
@@ -41,10 +41,10 @@ abbrev pub above_of : Maybe ℕ → Above
 above_of none = Nothing
 above_of (some reference) = At reference
 
-abbrev pub judged_by : Meeting → Place → Judged
-judged_by Made place = On place
-judged_by Clash place = Clashes
-judged_by Circle place = Circular
+abbrev pub judged_by : Result Place Unmet → Judged
+judged_by (Ok place) = On place
+judged_by (Err Clash) = Clashes
+judged_by (Err Circle) = Circular
 
 abbrev pub status_for : Judged → ℕ
 status_for (On place) = 0

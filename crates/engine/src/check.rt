@@ -12,9 +12,9 @@ use crate::{Conditions, profile, walk};
 use index::entries::Scan;
 use index::{entries, notes};
 use tableaux::tableau;
-use tableaux::tableau::{Place, Taken};
+use tableaux::tableau::Place;
 use unification::memory;
-use unification::unify::Meeting;
+use unification::unify::Unmet;
 use words::{Step, fields};
 
 // The checker's statuses.
@@ -81,15 +81,13 @@ fn wanted(file: &[u32], work: &[u32], place: Place) -> u32
     entries::other_sign(memory::word_at(file, work, tableau::literal_of(work, place.head)))
 }
 
-fn by_meeting(taken: Taken) -> Judged
-    ensures { result ≡ judged_by taken.meeting taken.place }
+fn by_meeting(taken: Result<Place, Unmet>) -> Judged
+    ensures { result ≡ judged_by taken }
 {
-    let meeting = taken.meeting;
-    let place = taken.place;
-    match meeting {
-        Meeting::Made => Judged::On(place),
-        Meeting::Clash => Judged::Clashes,
-        Meeting::Circle => Judged::Circular,
+    match taken {
+        Ok(place) => Judged::On(place),
+        Err(Unmet::Clash) => Judged::Clashes,
+        Err(Unmet::Circle) => Judged::Circular,
     }
 }
 

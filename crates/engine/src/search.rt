@@ -16,8 +16,8 @@ use crate::{Conditions, profile, vain};
 use index::entries::Scan;
 use index::{entries, links, notes, places, scanning};
 use tableaux::tableau;
-use tableaux::tableau::{Place, Taken};
-use unification::unify::Meeting;
+use tableaux::tableau::Place;
+use unification::unify::Unmet;
 use unification::{memory, unify};
 use words::{Step, fields, steps};
 
@@ -73,7 +73,13 @@ fn without(ending: Ending, left: u32) -> Searched
 }
 
 // The candidate is tried.
-fn take(file: &[u32], work: &mut [u32], task: Task, place: Place, candidate: Move) -> Taken
+fn take(
+    file: &[u32],
+    work: &mut [u32],
+    task: Task,
+    place: Place,
+    candidate: Move,
+) -> Result<Place, Unmet>
     requires { Treats file.now work.old task place × (0 < place.head) × Allows file.now work.old task place candidate }
     ensures { Takes file.now work.old work.new task place candidate result }
 {
@@ -87,10 +93,7 @@ fn take(file: &[u32], work: &mut [u32], task: Task, place: Place, candidate: Mov
         }
         Move::Renew => {
             let step = steps::encode(Step::Restart);
-            Taken {
-                meeting: Meeting::Made,
-                place: tableau::restart(file, work, place, task.question, step),
-            }
+            Ok(tableau::restart(file, work, place, task.question, step))
         }
     }
 }
@@ -120,12 +123,11 @@ fn attempt(
     let count = work[memory::COUNT];
     let copies = work[memory::COPIES];
     let taken = take(file, work, task, place, candidate);
-    let meeting = taken.meeting;
-    let Meeting::Made = meeting else {
+    let Ok(next) = taken else {
         restore(work, count, copies);
         return without(Ending::Nothing, left);
     };
-    let tried = treat(file, work, task, taken.place, left);
+    let tried = treat(file, work, task, next, left);
     let ending = tried.ending;
     let Ending::Nothing = ending else {
         return tried;

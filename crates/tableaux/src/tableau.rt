@@ -6,7 +6,7 @@ ghost use Rattle.unification.specs.State.{copies_of, literal_at, parent_at, next
 ghost use Rattle.tableaux.specs.Leaves.{hangs, hanging, noted, hung};
 ghost use Rattle.tableaux.specs.Ready.{Ready, NotesKept, Begun, Reducible, Reduced, Openable, Extensible, Extended, Restarted, opened, hanging_at, head_after, hung_under, place_under};
 
-use unification::unify::Meeting;
+use unification::unify::Unmet;
 use unification::{memory, unify};
 use words::fields;
 
@@ -16,13 +16,6 @@ pub struct Place {
     pub head: u32,
     pub leaves: u32,
     pub steps: u32,
-}
-
-// How the pair of a step met, and the place after it.
-#[derive(Clone, Copy)]
-pub struct Taken {
-    pub meeting: Meeting,
-    pub place: Place,
 }
 
 fn note(work: &mut [u32], leaf: u32, literal: u32, parent: u32, next: u32)
@@ -148,21 +141,25 @@ pub fn begin(file: &[u32], work: &mut [u32], question: u32) -> Place
 }
 
 // The leftmost leaf is closed against an ancestor's literal.
-pub fn reduce(file: &[u32], work: &mut [u32], place: Place, ancestor: u32, step: u32) -> Taken
+pub fn reduce(
+    file: &[u32],
+    work: &mut [u32],
+    place: Place,
+    ancestor: u32,
+    step: u32,
+) -> Result<Place, Unmet>
     requires { Reducible file.now work.old place ancestor }
     ensures { Reduced file.now work.old work.new place ancestor step result }
 {
     let literal = literal_of(work, place.head);
     let rest = right_of(work, place.head);
     note_step(work, place.steps, step);
-    Taken {
-        meeting: unify::meet_atoms(file, work, literal, ancestor),
-        place: Place {
-            head: rest,
-            leaves: place.leaves,
-            steps: place.steps + 1,
-        },
-    }
+    unify::meet_atoms(file, work, literal, ancestor)?;
+    Ok(Place {
+        head: rest,
+        leaves: place.leaves,
+        steps: place.steps + 1,
+    })
 }
 
 // One more copy, and the step that makes it.
@@ -210,24 +207,15 @@ pub fn extend(
     start: u32,
     offset: u32,
     step: u32,
-) -> Taken
+) -> Result<Place, Unmet>
     requires { Extensible file.now work.old place start offset }
     ensures { Extended file.now work.old work.new place start offset step result }
 {
     let copy = open_copy(work, start, place.steps, step);
     let literal = literal_of(work, place.head);
-    let met = unify::meet_entered(file, work, literal, copy * 256 + offset);
-    let Meeting::Made = met else {
-        return Taken {
-            meeting: met,
-            place,
-        };
-    };
+    unify::meet_entered(file, work, literal, copy * 256 + offset)?;
     let others = literals_at(file, start) - 1;
-    Taken {
-        meeting: met,
-        place: hang_under(file, work, place, start, copy, offset, others),
-    }
+    Ok(hang_under(file, work, place, start, copy, offset, others))
 }
 
 // A copy of the question hangs under the leftmost leaf, all its literals open.

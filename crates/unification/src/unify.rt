@@ -11,9 +11,9 @@ ghost use Rattle.unification.specs.Thorough.{spare_of, link_at, mark_at, Down, R
 use crate::{memory, terms};
 use words::fields;
 
+// Why two terms are not made equal: two symbols differ, or a variable would hold itself.
 #[derive(Clone, Copy)]
-pub enum Meeting {
-    Made,
+pub enum Unmet {
     Clash,
     Circle,
 }
@@ -166,20 +166,26 @@ fn occurs_through(
 }
 
 // A free variable is bound to a term that was followed, unless it occurs there.
-fn bind(file: &[u32], work: &mut [u32], notes: &mut [u32], variable: u32, reference: u32) -> Meeting
+fn bind(
+    file: &[u32],
+    work: &mut [u32],
+    notes: &mut [u32],
+    variable: u32,
+    reference: u32,
+) -> Result<(), Unmet>
     requires { Good file.now work.old × Quiet file.now work.old notes.old × Binds file.now work.old variable reference × Other file.now work.old variable reference }
     ensures { Meets file.now work.old work.new notes.old notes.new result (bind (bindings_in file.now work.old) (variable_of variable) (term_of file.now work.old reference)) }
 {
     // A single word is another free variable, or a constant.
     if terms::owed_after(1, memory::word_at(file, work, reference)) == 0 {
         memory::push(work, variable, reference);
-        return Meeting::Made;
+        return Ok(());
     }
     if occurs(file, work, notes, variable, reference) {
-        return Meeting::Circle;
+        return Err(Unmet::Circle);
     }
     memory::push(work, variable, reference);
-    Meeting::Made
+    Ok(())
 }
 
 // Whether the word at a reference is this variable's.
@@ -193,21 +199,27 @@ fn same_variable(reference: u32, word: u32, variable: u32) -> bool
 }
 
 #[cycle(meet_meet_all_meet_applied)]
-fn meet(file: &[u32], work: &mut [u32], notes: &mut [u32], left: u32, right: u32) -> Meeting
+fn meet(
+    file: &[u32],
+    work: &mut [u32],
+    notes: &mut [u32],
+    left: u32,
+    right: u32,
+) -> Result<(), Unmet>
     requires { Good file.now work.old × Quiet file.now work.old notes.old × Points file.now work.old left 1 × Points file.now work.old right 1 }
     ensures { Meets file.now work.old work.new notes.old notes.new result (unify (bindings_in file.now work.old) (term_of file.now work.old left) (term_of file.now work.old right)) }
 {
     let l = terms::follow(file, work, left);
     let r = terms::follow(file, work, right);
     if l == r {
-        return Meeting::Made;
+        return Ok(());
     }
     let v = memory::word_at(file, work, l);
     let w = memory::word_at(file, work, r);
     if fields::kind(w) == 0 {
         let y = memory::variable_at(r, w);
         if same_variable(l, v, y) {
-            return Meeting::Made;
+            return Ok(());
         }
         return bind(file, work, notes, y, l);
     }
@@ -215,36 +227,39 @@ fn meet(file: &[u32], work: &mut [u32], notes: &mut [u32], left: u32, right: u32
         return bind(file, work, notes, memory::variable_at(l, v), r);
     }
     if v != w {
-        return Meeting::Clash;
+        return Err(Unmet::Clash);
     }
     meet_applied(file, work, notes, l, r)
 }
 
 // Two applications of one symbol.
 #[cycle(meet_meet_all_meet_applied)]
-fn meet_applied(file: &[u32], work: &mut [u32], notes: &mut [u32], left: u32, right: u32) -> Meeting
+fn meet_applied(
+    file: &[u32],
+    work: &mut [u32],
+    notes: &mut [u32],
+    left: u32,
+    right: u32,
+) -> Result<(), Unmet>
     requires { Good file.now work.old × Quiet file.now work.old notes.old × Applied file.now work.old left right }
     ensures { Meets file.now work.old work.new notes.old notes.new result (unify (bindings_in file.now work.old) (term_of file.now work.old left) (term_of file.now work.old right)) }
 {
     let l = root(notes, left);
     let r = root(notes, right);
     if l == r {
-        return Meeting::Made;
+        return Ok(());
     }
     if spend(notes) {
-        return Meeting::Clash;
+        return Err(Unmet::Clash);
     }
     let count = fields::arity(memory::word_at(file, work, left));
-    let met = meet_all(file, work, notes, left + 1, right + 1, count);
-    let Meeting::Made = met else {
-        return met;
-    };
+    meet_all(file, work, notes, left + 1, right + 1, count)?;
     if l < r {
         link(notes, r, l);
-        return Meeting::Made;
+        return Ok(());
     }
     link(notes, l, r);
-    Meeting::Made
+    Ok(())
 }
 
 // Whether two words are the same, a function's or a constant's.
@@ -266,7 +281,7 @@ fn meet_all(
     left: u32,
     right: u32,
     count: u32,
-) -> Meeting
+) -> Result<(), Unmet>
     requires { Good file.now work.old × Quiet file.now work.old notes.old × Ahead file.now work.old left count × Ahead file.now work.old right count }
     ensures { Meets file.now work.old work.new notes.old notes.new result (pairs_met file.now work.old left right count) }
 {
@@ -281,22 +296,25 @@ fn meet_all(
             r += 1;
             continue;
         }
-        let met = meet(file, work, notes, l, r);
-        let Meeting::Made = met else {
-            return met;
-        };
+        meet(file, work, notes, l, r)?;
         more -= 1;
         if more == 0 {
-            return Meeting::Made;
+            return Ok(());
         }
         l = terms::after(file, work, l);
         r = terms::after(file, work, r);
     }
-    Meeting::Made
+    Ok(())
 }
 
 // The atoms of two literals, thoroughly, after a comparison that gave up was taken back.
-fn meet_thoroughly(file: &[u32], work: &mut [u32], kept: u32, leaf: u32, other: u32) -> Meeting
+fn meet_thoroughly(
+    file: &[u32],
+    work: &mut [u32],
+    kept: u32,
+    leaf: u32,
+    other: u32,
+) -> Result<(), Unmet>
     requires { (m : List ℕ) × Began file.now m work.old kept leaf other }
     ensures { (m : List ℕ) → Began file.now m work.old kept leaf other → Met file.now m work.new result (unify (bindings_in file.now m) (atom (literal_at_reference file.now m leaf)) (atom (literal_at_reference file.now m other))) }
 {
@@ -322,7 +340,7 @@ fn meet_rest(
     left: u32,
     right: u32,
     count: u32,
-) -> Meeting
+) -> Result<(), Unmet>
     requires { (m : List ℕ) × Remaining file.now m work.old kept leaf other left right count }
     ensures { (m : List ℕ) → Remaining file.now m work.old kept leaf other left right count → Met file.now m work.new result (unify (bindings_in file.now m) (atom (literal_at_reference file.now m leaf)) (atom (literal_at_reference file.now m other))) }
 {
@@ -335,7 +353,7 @@ fn meet_rest(
 }
 
 // The atoms of two literals of one predicate and arity.
-pub fn meet_atoms(file: &[u32], work: &mut [u32], leaf: u32, other: u32) -> Meeting
+pub fn meet_atoms(file: &[u32], work: &mut [u32], leaf: u32, other: u32) -> Result<(), Unmet>
     requires { Good file.now work.old × Alike file.now work.old leaf other }
     ensures { Met file.now work.old work.new result (unify (bindings_in file.now work.old) (atom (literal_at_reference file.now work.old leaf)) (atom (literal_at_reference file.now work.old other))) }
 {
@@ -357,7 +375,7 @@ fn is_free(work: &[u32], reference: u32, word: u32) -> bool
 
 // The atoms of a leaf and of the literal by which the newest copy was entered. As long as none but the copy's own variables are bound,
 // no older term leads to one of them, and so they are not looked for there.
-pub fn meet_entered(file: &[u32], work: &mut [u32], leaf: u32, entered: u32) -> Meeting
+pub fn meet_entered(file: &[u32], work: &mut [u32], leaf: u32, entered: u32) -> Result<(), Unmet>
     requires { Good file.now work.old × Alike file.now work.old leaf entered × Apart file.now work.old leaf entered }
     ensures { Met file.now work.old work.new result (unify (bindings_in file.now work.old) (atom (literal_at_reference file.now work.old leaf)) (atom (literal_at_reference file.now work.old entered))) }
 {
@@ -381,12 +399,12 @@ pub fn meet_entered(file: &[u32], work: &mut [u32], leaf: u32, entered: u32) -> 
         memory::push(work, memory::variable_at(r, other), value);
         more -= 1;
         if more == 0 {
-            return Meeting::Made;
+            return Ok(());
         }
         l = terms::after(file, work, l);
         r += 1;
     }
-    Meeting::Made
+    Ok(())
 }
 
 // The variables bound since a moment are free again.

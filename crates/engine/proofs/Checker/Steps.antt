@@ -34,11 +34,10 @@ use Rattle.engine.specs.Ended.{setting_for}
 use Rattle.engine.specs.declared.Conditions.{Conditions}
 use Rattle.engine.specs.Checking.{Upward, lineage, above_of, judged_by, LocatedAt, Located, Moved, Moves, PlayAt, Says, read_for, restarts_leaf, Checked}
 use Rattle.index.specs.declared.entries.Scan.{Scan}
-use Rattle.std.specs.Prelude.{Option, Some, None}
+use Rattle.std.specs.Prelude.{Option, Some, None, Result, Ok, Err}
 use Rattle.tableaux.specs.declared.tableau.Place.{Place}
-use Rattle.tableaux.specs.declared.tableau.Taken.{Taken}
-use Rattle.unification.specs.declared.unify.Meeting.{Meeting}
-use Rattle.unification.specs.declared.unify.Meeting.TheVariants.{Made, Clash, Circle}
+use Rattle.unification.specs.declared.unify.Unmet.{Unmet}
+use Rattle.unification.specs.declared.unify.Unmet.TheVariants.{Clash, Circle}
 use Rattle.engine.specs.declared.check.Above.{Above}
 use Rattle.engine.specs.declared.check.Above.TheVariants.{At, Nothing}
 use Rattle.engine.specs.declared.check.Judged.{Judged}
@@ -188,22 +187,22 @@ module _ {f m : List ℕ} {place : Place} (conditions : Conditions) (word : ℕ)
       (λ p s. closed_none (setting_for f conditions) p.tableau (read_for conditions word) (s.leaves ∙ rw z (chain_none (leaf_at f m) (next_at m) place.leaves)))
 
 -- what was judged of a step whose pair was brought together
-judged_says : (f m : List ℕ) (next : Place) (s : Step) (o : Performed) (meeting : Meeting) → Comes f m (judge f).question next meeting o → Says f m s (judged_by meeting next) o
-judged_says f m next s o Made c = c
-judged_says f m next s o Clash c = c
-judged_says f m next s o Circle c = c
+judged_says : (f m : List ℕ) (s : Step) (o : Performed) (taken : Result Place Unmet) → Comes f m (judge f).question taken o → Says f m s (judged_by taken) o
+judged_says f m s o (Ok next) c = c
+judged_says f m s o (Err Clash) c = c
+judged_says f m s o (Err Circle) c = c
 
-judged_moves : (f m m' : List ℕ) (s : Step) (place next : Place) (meeting : Meeting) → (meeting ≡ Made → Moved f m m' s place next) → Moves f m m' s place (judged_by meeting next)
-judged_moves f m m' s place next Made h = h refl
-judged_moves f m m' s place next Clash h = tt
-judged_moves f m m' s place next Circle h = tt
+judged_moves : (f m m' : List ℕ) (s : Step) (place : Place) (taken : Result Place Unmet) → ((next : Place) → taken ≡ Ok next → Moved f m m' s place next) → Moves f m m' s place (judged_by taken)
+judged_moves f m m' s place (Ok next) h = h next refl
+judged_moves f m m' s place (Err Clash) h = tt
+judged_moves f m m' s place (Err Circle) h = tt
 
-module _ {f m m' : List ℕ} {place next : Place} where
-  judged : (conditions : Conditions) (word : ℕ) (meeting : Meeting) {j : Judged} → j ≡ judged_by meeting next → (meeting ≡ Made → Moved f m m' (read_for conditions word) place next)
-      → ((p : Play) → PlayAt f m place p → Comes f m' (judge f).question next meeting (perform (setting_for f conditions) p (read_for conditions word)))
+module _ {f m m' : List ℕ} {place : Place} where
+  judged : (conditions : Conditions) (word : ℕ) (taken : Result Place Unmet) {j : Judged} → j ≡ judged_by taken → ((next : Place) → taken ≡ Ok next → Moved f m m' (read_for conditions word) place next)
+      → ((p : Play) → PlayAt f m place p → Comes f m' (judge f).question taken (perform (setting_for f conditions) p (read_for conditions word)))
       → Checked f m m' conditions place word j
-  judged conditions word meeting e h c =
-      rw e (record { moves = judged_moves f m m' (read_for conditions word) place next meeting h; says = λ p s. judged_says f m' next (read_for conditions word) (perform (setting_for f conditions) p (read_for conditions word)) meeting (c p s) })
+  judged conditions word taken e h c =
+      rw e (record { moves = judged_moves f m m' (read_for conditions word) place taken h; says = λ p s. judged_says f m' (read_for conditions word) (perform (setting_for f conditions) p (read_for conditions word)) taken (c p s) })
 
 -- the leftmost leaf, and the ancestor at a height by the references from the leaf up
 module _ {f m : List ℕ} {place : Place} (ready : Ready f m place) (n : place.head ≡ 0 → ⊥) where
@@ -306,13 +305,13 @@ module _ {f m : List ℕ} {place : Place} (ready : Ready f m place) (word height
                 alike = alike_other _ _ (stands_literate f m _ (leaf_stands ready n)).shaped (small _) other_sign_lem;
               }
 
-          pub reduce_judged : {m' : List ℕ} {taken : Taken} → Reduced f m m' place r word taken → {j : Judged} → j ≡ judged_by taken.meeting taken.place
+          pub reduce_judged : {m' : List ℕ} {taken : Result Place Unmet} → Reduced f m m' place r word taken → {j : Judged} → j ≡ judged_by taken
               → (conditions : Conditions) → read_for conditions word ≡ step.Reduction height → Checked f m m' conditions place word j
           reduce_judged {m'} {taken} h ej conditions s =
               let fitting = fits_other small (stands_literate f m _ (leaf_stands ready n)) (stands_literate f m r other-stands) other_sign_lem in
               let there = above-some ready n height (some-height conditions word s) (sym g ∙ e) in
-              judged conditions word taken.meeting ej
-              (λ _. record { ready = h.ready; steps = h.steps; later = h.stepping.later; copies = rw s h.copies })
+              judged conditions word taken ej
+              (λ next o. rw (h.leads next o) (record { ready = h.ready; steps = refl; later = h.stepping.later; copies = rw s h.copies }))
               (λ p st. rw s (reduction_comes (setting_for f conditions) ready (omega arith) h p st height there fitting))
 
 -- the leaf's word can be read
@@ -406,14 +405,14 @@ module _ {f m : List ℕ} {place : Place} (ready : Ready f m place) (conditions 
                   alike = alike_other _ _ leaf_literate.shaped (small _) entered-sign;
                 }
 
-            pub extend_judged : restarts_leaf f m conditions place ≡ false → {m' : List ℕ} {taken : Taken} → Extended f m m' place scan.start (scan.at - scan.start) word taken
-                → {j : Judged} → j ≡ judged_by taken.meeting taken.place → Checked f m m' conditions place word j
+            pub extend_judged : restarts_leaf f m conditions place ≡ false → {m' : List ℕ} {taken : Result Place Unmet} → Extended f m m' place scan.start (scan.at - scan.start) word taken
+                → {j : Judged} → j ≡ judged_by taken → Checked f m m' conditions place word j
             extend_judged let-so {m'} {taken} x ej =
                 let literate = copy_literate scan-literal m' (copies_of m) x.copied.starts in
                 let fitting = fits_other small leaf_literate literate (copy_word scan-literal m' (copies_of m) x.copied.starts ∙ entered-sign) in
                 let may = one_of conditions.restarts (leaf ready n).literal.negative (sym (leaf_let ready n conditions) ∙ let-so) in
-                judged conditions word taken.meeting ej
-                (λ e. record { ready = (x.hung e).ready; steps = (x.hung e).steps; later = x.copied.stepping.later; copies = rw (s, x.copied.starts) (x.copied.copies, scan-clause) })
+                judged conditions word taken ej
+                (λ next o. record { ready = (x.hung next o).ready; steps = (x.hung next o).steps; later = x.copied.stepping.later; copies = rw (s, x.copied.starts) (x.copied.copies, scan-clause) })
                 (λ p st. rw scan_step (extension_comes (setting_for f conditions) ready (omega arith) scan scan_enters x p st (may, omega (arith, st.extensions)) fitting))
 
 -- whether the leaf is restarted, with premises as the code has them

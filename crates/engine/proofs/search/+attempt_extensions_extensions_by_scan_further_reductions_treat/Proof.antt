@@ -13,10 +13,7 @@ use Rattle.engine.specs.Searching.{room_at, reductions_at, extensions_at, extens
 use Rattle.engine.specs.declared.search.Ending.{Ending}
 use Rattle.engine.specs.declared.search.Ending.TheVariants.{Found, Nothing, Out}
 use Rattle.engine.specs.declared.search.Move.TheVariants.{Reduce, Enter}
-use Rattle.unification.specs.declared.unify.Meeting.{Meeting}
-use Rattle.unification.specs.declared.unify.Meeting.TheVariants.{Made, Clash, Circle}
 use Rattle.engine.specs.contracts.search.Ending.{enum as ending}
-use Rattle.unification.specs.contracts.unify.Meeting.{enum as meeting}
 use Rattle.engine.proofs.Searching.Rows.{room_again, treats_again, Rowing, rowing_begin, rowing_by, rowing_out, rowing_then, rowing_given_up, rowing_ended, rowing_on}
 use Rattle.engine.proofs.Searching.Again.{count_kept}
 use Rattle.engine.proofs.Searching.Attempts.{attempt_restores, attempt_failed, attempt_treats, attempt_falls, attempt_ended, attempt_good_below, attempt_restores_below, attempt_none}
@@ -175,17 +172,18 @@ pub +attempt_extensions_extensions_by_scan_further_reductions_treat_spec : {M : 
     (λ c. omega (arith, c.requires.1.0.ready.good.size))
     (λ c κs. c.requires.1)
     (λ c. search rules)
+    (λ c. search rules)
     (λ c κs. attempt_restores c.requires.1.0 c.args.candidate c.take-taken.ensures refl)
     (λ c κs. search rules)
     (λ c. c.restore.auto.work ∙ c.take-taken.auto.work)
-    (λ c. attempt_failed c.requires.1.0 c.args.candidate c.take-taken.ensures c.in_default.not-Made refl refl c.args.left (c.restore.ensures c.args.file.now c.take-taken.ensures.good) c.without.ensures)
-    (λ c κs. (omega (arith, attempt_falls c.requires.1.0 c.args.candidate c.take-taken.ensures c.in-Made.is, c.requires.0), attempt_treats c.requires.1.0 c.args.candidate c.take-taken.ensures c.in-Made.is))
+    (λ c. attempt_failed c.requires.1.0 c.args.candidate c.take-taken.ensures c.in_default.is refl refl c.args.left (c.restore.ensures c.args.file.now c.take-taken.ensures.good) c.without.ensures)
+    (λ c κs. (omega (arith, attempt_falls c.requires.1.0 c.args.candidate c.take-taken.ensures c.in-Ok.is, c.requires.0), attempt_treats c.requires.1.0 c.args.candidate c.take-taken.ensures c.in-Ok.is))
     (λ c. search rules)
     (λ c. c.treat-tried.auto.work ∙ c.take-taken.auto.work)
-    (λ c. attempt_ended c.requires.1.0 c.args.candidate c.take-taken.ensures c.in-Made.is c.treat-tried.ensures c.in_default-ending.not-Nothing)
-    (λ c κs. attempt_restores_below c.requires.1.0 c.args.candidate c.take-taken.ensures c.in-Made.is c.treat-tried.ensures c.in-Nothing.is refl)
+    (λ c. attempt_ended c.requires.1.0 c.args.candidate c.take-taken.ensures c.in-Ok.is c.treat-tried.ensures c.in_default-ending.not-Nothing)
+    (λ c κs. attempt_restores_below c.requires.1.0 c.args.candidate c.take-taken.ensures c.in-Ok.is c.treat-tried.ensures c.in-Nothing.is refl)
     (λ c. c.restore-2.auto.work ∙ c.treat-tried.auto.work ∙ c.take-taken.auto.work)
-    (λ c. attempt_none c.requires.1.0 c.args.candidate c.take-taken.ensures c.in-Made.is c.treat-tried.ensures c.in-Nothing.is refl refl (c.restore-2.ensures c.args.file.now (attempt_good_below c.requires.1.0 c.args.candidate c.take-taken.ensures c.in-Made.is c.treat-tried.ensures c.in-Nothing.is))))
+    (λ c. attempt_none c.requires.1.0 c.args.candidate c.take-taken.ensures c.in-Ok.is c.treat-tried.ensures c.in-Nothing.is refl refl (c.restore-2.ensures c.args.file.now (attempt_good_below c.requires.1.0 c.args.candidate c.take-taken.ensures c.in-Ok.is c.treat-tried.ensures c.in-Nothing.is))))
     (λ t. extensions-lts.spec
     (told_extensions t)
     (extensions_at_lem t)
