@@ -17,7 +17,7 @@ pub(crate) fn tell(rt: &impl Eprint, watched: bool, bound: u32, tries: u32) {
     let mut own = line();
     let a = put::field(&mut own, 0, b"bound ", bound);
     let b = put::field(&mut own, a, b": none, tries so far ", tries);
-    if let Ok(told) = str::from_utf8(part::front_bytes(&own, b)) {
+    if let Ok(told) = str::from_utf8(part::front(&own, b)) {
         let _ = eprintln!(rt; "{told}");
     }
 }

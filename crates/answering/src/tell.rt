@@ -19,7 +19,7 @@ use words::fields::wide;
 pub fn cut(page: &[u8], n: usize, out: &mut [u8], at: usize) -> usize
     ensures { CutTo page.now n out.old at out.new result }
 {
-    let next = put::bytes(out, at, part::front_bytes(page, n));
+    let next = put::bytes(out, at, part::front(page, n));
     if page.len() < n {
         return put::bytes(out, next, b" ...\n");
     }

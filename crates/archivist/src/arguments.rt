@@ -48,13 +48,13 @@ pub fn argument_count(rt: &HostRuntime) -> usize {
 pub fn is(rt: &HostRuntime, i: usize, text: &[u8]) -> bool {
     let mut space = [0u8; 4096];
     let n = argument(rt, i, &mut space);
-    piece::is(part::front_bytes(&space, n), 0, text)
+    piece::is(part::front(&space, n), 0, text)
 }
 
 pub fn number(rt: &HostRuntime, i: usize) -> Number {
     let mut space = [0u8; 4096];
     let n = argument(rt, i, &mut space);
-    piece::decimal(part::front_bytes(&space, n), 0, b'\n')
+    piece::decimal(part::front(&space, n), 0, b'\n')
 }
 
 // The argument after a name; 0 where the name is not among the arguments.

@@ -247,9 +247,9 @@ fn read_files(
         drawn,
         limit,
         name,
-        part::front_bytes(&text, got.bytes),
+        part::front(&text, got.bytes),
         proof,
-        part::front_bytes(&said, offered.bytes),
+        part::front(&said, offered.bytes),
     )
 }
 
@@ -266,7 +266,7 @@ pub fn check(rt: &HostRuntime, drawn: bool, o: Options) -> io::Result<()> {
         rt,
         drawn,
         o.limit,
-        part::front_bytes(&space, n),
-        part::front_bytes(&other, m),
+        part::front(&space, n),
+        part::front(&other, m),
     )
 }

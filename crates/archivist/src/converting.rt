@@ -12,7 +12,7 @@ use words::fields::wide;
 fn write_words(rt: &HostRuntime, file: &[u32]) -> io::Result<()> {
     let mut out = files::text_buffer();
     let n = convert::words(&mut out, 0, file);
-    streams::write_all(rt, Stream::Output, part::front_bytes(&out, n))
+    streams::write_all(rt, Stream::Output, part::front(&out, n))
 }
 
 fn words_of(rt: &HostRuntime, name: &[u8], text: &[u8]) -> io::Result<()> {
@@ -31,13 +31,13 @@ pub fn words(rt: &HostRuntime, o: Options) -> io::Result<()> {
     }
     let mut space = [0u8; 4096];
     let n = arguments::last(rt, &mut space);
-    let name = part::front_bytes(&space, n);
+    let name = part::front(&space, n);
     let mut text = files::text_buffer();
     let got = files::read(rt, name, &mut text)?;
     if !got.good {
         return Ok(());
     }
-    words_of(rt, name, part::front_bytes(&text, got.bytes))
+    words_of(rt, name, part::front(&text, got.bytes))
 }
 
 // Room for the text of a table.
@@ -53,7 +53,7 @@ fn complain(rt: &HostRuntime, name: &[u8], status: u32, place: u32) -> io::Resul
     let b = put::field(&mut out, a, b": no question file: status ", status);
     let c = put::field(&mut out, b, b", place ", place);
     let d = put::byte(&mut out, c, b'\n');
-    streams::write_all(rt, Stream::Error, part::front_bytes(&out, d))
+    streams::write_all(rt, Stream::Error, part::front(&out, d))
 }
 
 fn write_text(rt: &HostRuntime, name: &[u8], file: &[u32]) -> io::Result<()> {
@@ -65,7 +65,7 @@ fn write_text(rt: &HostRuntime, name: &[u8], file: &[u32]) -> io::Result<()> {
     streams::write_all(
         rt,
         Stream::Output,
-        part::front_bytes(&out, wide(written.bytes)),
+        part::front(&out, wide(written.bytes)),
     )
 }
 
@@ -85,13 +85,13 @@ pub fn text(rt: &HostRuntime, o: Options) -> io::Result<()> {
     }
     let mut space = [0u8; 4096];
     let n = arguments::last(rt, &mut space);
-    let name = part::front_bytes(&space, n);
+    let name = part::front(&space, n);
     let mut bytes = files::text_buffer();
     let got = files::read(rt, name, &mut bytes)?;
     if !got.good {
         return Ok(());
     }
-    text_of(rt, name, part::front_bytes(&bytes, got.bytes))
+    text_of(rt, name, part::front(&bytes, got.bytes))
 }
 
 fn numbers_buffer() -> [u32; 512]
@@ -123,11 +123,11 @@ pub fn slim(rt: &HostRuntime, o: Options) -> io::Result<()> {
     }
     let mut space = [0u8; 4096];
     let n = arguments::last(rt, &mut space);
-    let name = part::front_bytes(&space, n);
+    let name = part::front(&space, n);
     let mut text = files::text_buffer();
     let got = files::read(rt, name, &mut text)?;
     if !got.good {
         return Ok(());
     }
-    slim_text(rt, name, part::front_bytes(&text, got.bytes))
+    slim_text(rt, name, part::front(&text, got.bytes))
 }

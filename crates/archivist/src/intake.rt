@@ -62,13 +62,13 @@ fn answer(rt: &HostRuntime, name: &[u8], text: &[u8], day: u32, house: u32) -> i
 fn with_records(rt: &HostRuntime, day: u32, house: u32) -> io::Result<()> {
     let mut space = [0u8; 4096];
     let n = arguments::argument(rt, 2, &mut space);
-    let name = part::front_bytes(&space, n);
+    let name = part::front(&space, n);
     let mut text = files::text_buffer();
     let got = files::read(rt, name, &mut text)?;
     if !got.good {
         return Ok(());
     }
-    answer(rt, name, part::front_bytes(&text, got.bytes), day, house)
+    answer(rt, name, part::front(&text, got.bytes), day, house)
 }
 
 // `desk RECORDS DAY HOUSE`.

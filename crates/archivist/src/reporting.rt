@@ -67,7 +67,7 @@ fn plus(a: usize, b: usize) -> usize {
 
 // File and line.
 fn label(out: &mut [u8], name: &[u8], text: &[u8], at: usize) -> usize {
-    let p = place::locate(part::front_bytes(text, at));
+    let p = place::locate(part::front(text, at));
     let a = put::bytes(out, 0, name);
     place::labelled(out, a, b":", p.line)
 }
@@ -85,7 +85,7 @@ fn tell_wrong(
     telling::write(rt, Stream::Output, &out, n)?;
     let mut space = [0u8; 4096];
     let m = label(&mut space, name, text, place);
-    telling::status_line(rt, part::front_bytes(&space, m), b"InputError")?;
+    telling::status_line(rt, part::front(&space, m), b"InputError")?;
     Ok(refused())
 }
 
@@ -159,7 +159,7 @@ fn ask_clause(
     let a = put::bytes(&mut joined, 0, table);
     let b = put::byte(&mut joined, a, b'\n');
     let c = put::bytes(&mut joined, b, clause);
-    ask_joined(rt, limit, budget, label, part::front_bytes(&joined, c))
+    ask_joined(rt, limit, budget, label, part::front(&joined, c))
 }
 
 // The clause of the questions that begins at a place and ends at another; blanks and comments after the last are none.
@@ -173,7 +173,7 @@ fn ask_next(
     from: usize,
     end: usize,
 ) -> io::Result<Report> {
-    let clause = part::rest_bytes(part::front_bytes(questions, end), from);
+    let clause = part::rest(part::front(questions, end), from);
     let mut space = [0u8; 4096];
     let verdict = judge_text(clause);
     match verdict {
@@ -184,7 +184,7 @@ fn ask_next(
             }
             let at = plus(from, stuck::question_name(clause, 1));
             let n = label(&mut space, name, questions, at);
-            let place = part::front_bytes(&space, n);
+            let place = part::front(&space, n);
             if asked == 0 {
                 return tell_no_question(rt, place);
             }
@@ -227,7 +227,7 @@ fn ask_table(
         rt,
         o.limit,
         o.budget,
-        part::front_bytes(&table, n),
+        part::front(&table, n),
         list,
         questions,
     )?;
@@ -273,7 +273,7 @@ fn complain(rt: &HostRuntime, name: &[u8]) -> io::Result<()> {
 fn with_questions(rt: &HostRuntime, o: Options, name: &[u8], text: &[u8]) -> io::Result<()> {
     let mut space = [0u8; 4096];
     let n = arguments::last(rt, &mut space);
-    let list = part::front_bytes(&space, n);
+    let list = part::front(&space, n);
     let mut questions = questions_buffer();
     let got = files::read(rt, list, &mut questions)?;
     if !got.good {
@@ -288,7 +288,7 @@ fn with_questions(rt: &HostRuntime, o: Options, name: &[u8], text: &[u8]) -> io:
         name,
         text,
         list,
-        part::front_bytes(&questions, got.bytes),
+        part::front(&questions, got.bytes),
     )
 }
 
@@ -299,11 +299,11 @@ pub fn season(rt: &HostRuntime, o: Options) -> io::Result<()> {
     }
     let mut space = [0u8; 4096];
     let n = arguments::from_last(rt, 1, &mut space);
-    let name = part::front_bytes(&space, n);
+    let name = part::front(&space, n);
     let mut text = files::text_buffer();
     let got = files::read(rt, name, &mut text)?;
     if !got.good {
         return Ok(());
     }
-    with_questions(rt, o, name, part::front_bytes(&text, got.bytes))
+    with_questions(rt, o, name, part::front(&text, got.bytes))
 }

@@ -21,7 +21,7 @@ fn sheet() -> [u8; 1048576] {
 }
 
 pub fn write(rt: &HostRuntime, to: Stream, page: &[u8], n: usize) -> io::Result<()> {
-    streams::write_all(rt, to, part::front_bytes(page, n))?;
+    streams::write_all(rt, to, part::front(page, n))?;
     if page.len() < n {
         return streams::write_all(rt, to, b" ...\n");
     }
@@ -35,7 +35,7 @@ pub fn ask(rt: &HostRuntime, o: Options) -> io::Result<()> {
     }
     let mut space = [0u8; 4096];
     let n = arguments::last(rt, &mut space);
-    let name = part::front_bytes(&space, n);
+    let name = part::front(&space, n);
     let mut text = files::text_buffer();
     let got = files::read(rt, name, &mut text)?;
     if !got.good {
@@ -53,7 +53,7 @@ pub fn ask(rt: &HostRuntime, o: Options) -> io::Result<()> {
         watched,
         asked,
         name,
-        part::front_bytes(&text, got.bytes),
+        part::front(&text, got.bytes),
         &mut out,
     );
     write(rt, Stream::Output, &out, m)
@@ -218,6 +218,6 @@ pub fn tell_behind(
         rt,
         text,
         index,
-        part::front_bytes(&listing, wide(listed.bytes)),
+        part::front(&listing, wide(listed.bytes)),
     )
 }

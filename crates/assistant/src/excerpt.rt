@@ -64,7 +64,7 @@ fn around(out: &mut [u8], at: usize, before: &[u8], rest: &[u8], back: usize) ->
     ensures { Put out.old at (around_text before.now rest.now back) out.new result }
 {
     let near = place::after(before, before.len() - back);
-    let far = part::front_bytes(rest, 40);
+    let far = part::front(rest, 40);
     let a = put::bytes(out, at, b"  ");
     let b = show(out, a, near);
     show(out, b, far)

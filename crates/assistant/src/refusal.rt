@@ -41,7 +41,7 @@ fn long(out: &mut [u8], at: usize, name: &[u8]) -> usize
 pub fn located(out: &mut [u8], at: usize, name: &[u8], text: &[u8], place: usize) -> usize
     ensures { Put out.old at (located_text name.now text.now place) out.new result }
 {
-    let before = part::front_bytes(text, place);
+    let before = part::front(text, place);
     let rest = place::after(text, place);
     let p = place::locate(before);
     let column = p.column;

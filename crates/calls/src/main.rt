@@ -45,7 +45,7 @@ fn answer_line(rt: &HostRuntime, line: &[u8], full: bool) -> io::Result<()> {
 // Answers a line that has ended; how long the line is then.
 fn end_line(rt: &HostRuntime, line: &[u8], used: usize, ended: bool) -> io::Result<usize> {
     if ended {
-        answer_line(rt, part::front_bytes(line, used), line.len() <= used)?;
+        answer_line(rt, part::front(line, used), line.len() <= used)?;
         return Ok(0);
     }
     Ok(used)

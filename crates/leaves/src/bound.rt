@@ -110,7 +110,7 @@ fn literal_bound(
     let own = words(bound, copy, literal);
     let a = show::words(text, index, part::front(index, 0), 1, own, &mut space, 0);
     let b = mark(64 < count(bound, copy, literal), &mut space, a);
-    shown::cut(part::front_bytes(&space, b), 120, out, from)
+    shown::cut(part::front(&space, b), 120, out, from)
 }
 
 // Whether anything is told: the copy has been made, and the literal has variables.

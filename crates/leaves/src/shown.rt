@@ -77,7 +77,7 @@ pub(crate) fn cut(own: &[u8], most: usize, out: &mut [u8], from: usize) -> usize
     if own.len() <= most {
         return put::bytes(out, from, own);
     }
-    let front = put::bytes(out, from, part::front_bytes(own, most));
+    let front = put::bytes(out, from, part::front(own, most));
     put::bytes(out, front, b"...")
 }
 
@@ -96,7 +96,7 @@ pub fn literal_cut(
 {
     let mut space = [0u8; 121];
     let n = literal(text, index, file, number, which, &mut space, 0);
-    cut(part::front_bytes(&space, n), 120, out, from)
+    cut(part::front(&space, n), 120, out, from)
 }
 
 pub fn name_cut(text: &[u8], index: &[u32], number: u32, out: &mut [u8], from: usize) -> usize

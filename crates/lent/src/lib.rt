@@ -35,7 +35,7 @@ pub fn least(a: usize, b: usize) -> usize
 }
 
 pub fn write_line(rt: &impl Print, out: &[u8], n: usize) -> io::Result<()> {
-    rt.write_all(part::front_bytes(out, n))
+    rt.write_all(part::front(out, n))
 }
 
 // Room for the longest line, read or written.

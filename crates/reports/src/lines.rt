@@ -72,6 +72,6 @@ pub fn next_piece(line: &[u8], from: usize) -> Piece
 pub fn bytes(line: &[u8], p: Piece) -> &[u8]
     ensures { result.now ≡ piece_bytes line.now p }
 {
-    let upto = part::front_bytes(line, p.end);
-    part::rest_bytes(upto, p.start)
+    let upto = part::front(line, p.end);
+    part::rest(upto, p.start)
 }

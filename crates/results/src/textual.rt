@@ -37,9 +37,9 @@ pub fn written_text(
     ensures { Put out.old at (written_text status place count text.now) out.new result }
 {
     let long = wide(count);
-    let intact = buffers::untouched_bytes(part::rest_bytes(text, long));
+    let intact = buffers::untouched_bytes(part::rest(text, long));
     let a = line::counted(out, at, status, place, b" bytes ", count);
-    let b = line::barred_bytes(out, a, part::front_bytes(text, long));
+    let b = line::barred_bytes(out, a, part::front(text, long));
     line::verdict(out, b, intact)
 }
 
@@ -56,8 +56,8 @@ pub fn listed_text(
     ensures { Put out.old at (listed_text status place count text.now work.now) out.new result }
 {
     let long = wide(count);
-    let intact = buffers::text_kept(status, part::rest_bytes(text, long), work);
+    let intact = buffers::text_kept(status, part::rest(text, long), work);
     let a = line::counted(out, at, status, place, b" bytes ", count);
-    let b = line::barred_bytes(out, a, part::front_bytes(text, long));
+    let b = line::barred_bytes(out, a, part::front(text, long));
     line::verdict(out, b, intact)
 }

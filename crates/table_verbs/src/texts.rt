@@ -21,7 +21,7 @@ fn lend_file(rt: &impl Print, text: &[u8], words: usize) -> io::Result<()> {
 fn answer_text(rt: &impl Print, line: &[u8], values: &[usize]) -> io::Result<()> {
     let mut space = lent::text_buffer();
     let n = bytes::gather(line, request::place(values, 1), &mut space);
-    lend_file(rt, part::front_bytes(&space, n), request::place(values, 0))
+    lend_file(rt, part::front(&space, n), request::place(values, 0))
 }
 
 fn write_text(rt: &impl Print, file: &[u32], text: &mut [u8]) -> io::Result<()> {

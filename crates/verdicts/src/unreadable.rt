@@ -48,7 +48,7 @@ pub fn wrong(
 ) -> usize
     ensures { Put out.old from (unreadable_text name.now said.now at awaited) out.new result }
 {
-    let before = part::front_bytes(said, at);
+    let before = part::front(said, at);
     let rest = place::after(said, at);
     let p = place::locate(before);
     let column = p.column;

@@ -11,8 +11,8 @@ sub-after c = search rules
 after-requires : tie.Need-after-near-requires
 after-requires c κs = search rules
 
-front-bytes-requires : tie.Need-front_bytes-far-requires
-front-bytes-requires c κs = search rules
+front-requires : tie.Need-front-far-requires
+front-requires c κs = search rules
 
 bytes-requires : tie.Need-bytes-a-requires
 bytes-requires c κs = search rules
@@ -35,7 +35,7 @@ around_spec =
     (tie.spec
     sub-after
     after-requires
-    front-bytes-requires
+    front-requires
     bytes-requires
     show-requires
     show-requires-2

@@ -20,4 +20,4 @@ literal_bound_spec =
     (λ c κs. search all)
     (λ c κs. search all)
     (λ c. search all)
-    (λ c. bound_cut_is _ _ _ _ _ c.words-own.ensures.0 c.front.ensures c.count.ensures (search rules) c.words-a.ensures c.mark-b.ensures c.front_bytes.ensures c.cut.ensures))
+    (λ c. bound_cut_is _ _ _ _ _ c.words-own.ensures.0 c.front.ensures c.count.ensures (search rules) c.words-a.ensures c.mark-b.ensures c.front-2.ensures c.cut.ensures))

@@ -14,8 +14,8 @@ same_length c = search all
 returns : tie.Need-returns-then-own-most
 returns c = search all
 
-front-bytes-requires : tie.Need-front_bytes-requires
-front-bytes-requires c κs = search all
+front-requires : tie.Need-front-requires
+front-requires c κs = search all
 
 bytes-requires-2 : tie.Need-bytes-front-requires
 bytes-requires-2 c κs = search all
@@ -36,7 +36,7 @@ cut_spec =
     bytes-requires
     same_length
     returns
-    front-bytes-requires
+    front-requires
     bytes-requires-2
     bytes-requires-3
     same-length-2

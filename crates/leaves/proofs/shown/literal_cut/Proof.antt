@@ -11,11 +11,11 @@ slice-aggregate-literal c = search all
 literal-requires : tie.Need-literal-n-requires
 literal-requires c κs = search all
 
-slice-aggregate-front-bytes : tie.Need-slice_bounds-front_bytes-end
-slice-aggregate-front-bytes c = search all
+slice-aggregate-front : tie.Need-slice_bounds-front-end
+slice-aggregate-front c = search all
 
-front-bytes-requires : tie.Need-front_bytes-requires
-front-bytes-requires c κs = search all
+front-requires : tie.Need-front-requires
+front-requires c κs = search all
 
 cut-requires : tie.Need-cut-requires
 cut-requires c κs = search all
@@ -32,8 +32,8 @@ literal_cut_spec =
     (tie.spec
     slice-aggregate-literal
     literal-requires
-    slice-aggregate-front-bytes
-    front-bytes-requires
+    slice-aggregate-front
+    front-requires
     cut-requires
     same_length
     returns)

@@ -5,8 +5,8 @@ use Rattle.verdicts.proofs.unreadable.wrong.Tie as tie
 
 ruleset all = (rules, unreadable_is)
 
-front-bytes-requires : tie.Need-front_bytes-before-requires
-front-bytes-requires c κs = search all
+front-requires : tie.Need-front-before-requires
+front-requires c κs = search all
 
 after-requires : tie.Need-after-rest-requires
 after-requires c κs = search all
@@ -33,7 +33,7 @@ pub wrong_spec : {M : Type 1} → statement M
 wrong_spec =
     tie.close
     (tie.spec
-    front-bytes-requires
+    front-requires
     after-requires
     locate-requires
     head-requires
