@@ -25,6 +25,7 @@ pub fn beginning() -> Scan
 }
 
 // The scan past one word.
+#[tactic(auto, using(crate::proofs::Scans::past_laws))]
 pub fn past(scan: Scan, word: u32) -> Scan
     requires { (scan.at < 4294967295) × (scan.clauses ≤ scan.at) × (scan.literals ≤ scan.at) }
     ensures { result ≡ past_word scan word }
@@ -42,17 +43,11 @@ pub fn past(scan: Scan, word: u32) -> Scan
     if kind == 2 {
         return Scan {
             at: at + 1,
-            clauses: scan.clauses,
-            start: scan.start,
             literals: scan.literals + 1,
+            ..scan
         };
     }
-    Scan {
-        at: at + 1,
-        clauses: scan.clauses,
-        start: scan.start,
-        literals: scan.literals,
-    }
+    Scan { at: at + 1, ..scan }
 }
 
 // The literal word of the other sign.

@@ -79,10 +79,8 @@ pub fn link(file: &[u32], work: &mut [u32])
     ensures { (body : ℕ) → Indexed file.now body work.old → Linked file.now body work.new 0 }
 {
     memory::clear(work, places::HEADS, places::KEYS);
-    let mut left = work[places::NOTED];
-    while left != 0 {
-        left -= 1;
-        link_literal(file, work, left);
+    for literal in (0..work[places::NOTED]).rev() {
+        link_literal(file, work, literal);
     }
 }
 

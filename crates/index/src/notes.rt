@@ -32,12 +32,7 @@ fn note_literal(work: &mut [u32], number: u32, scan: Scan)
 fn moved(scan: Scan, at: u32) -> Scan
     ensures { result ≡ moved_to scan at }
 {
-    Scan {
-        at,
-        clauses: scan.clauses,
-        start: scan.start,
-        literals: scan.literals,
-    }
+    Scan { at, ..scan }
 }
 
 // The scan past the words that begin neither a clause nor a literal.
@@ -45,14 +40,12 @@ pub fn past_plain(file: &[u32], scan: Scan, body: u32) -> Scan
     requires { (scan.at ≤ body) × (body ≤ length file.now) }
     ensures { result ≡ moved_to scan (plain_from scan.at (drop scan.at (take body file.now))) }
 {
-    let mut at = scan.at;
-    while at < body {
+    for at in scan.at..body {
         if 1 < fields::kind(file[fields::wide(at)]) {
             return moved(scan, at);
         }
-        at += 1;
     }
-    moved(scan, at)
+    moved(scan, body)
 }
 
 // The literals of a body, noted once.

@@ -36,11 +36,6 @@ use Rattle.unification.proofs.Atoms.{literal_next}
 use Rattle.unification.proofs.ThoroughAtoms.{literal_arguments, brief_quiet}
 use Rattle.unification.proofs.MeetAll.{Going, all_begin, all_in_place, all_left, all_right, left_points, right_points, all_last, still, all_left_still, all_on}
 
--- a free variable that was seen at a word
-pub free_seen : (m : List ℕ) (r w : ℕ) {k x u : ℕ} → k ≡ kind_of w → k ≡ 0 → x ≡ variable_at r w → u ≡ x → eqb (bound_at m u) 0 ≡ true
-    → (kind_of w ≡ 0) × (bound_at m (variable_at r w) ≡ 0)
-free_seen m r w ek z ex eu t = (sym ek ∙ z, ap (λ (i : ℕ). bound_at m i) (sym (eu ∙ ex)) ∙ eqb-true _ _ t)
-
 -- a term's variables are its copy's
 term_over : (f m : List ℕ) (r : ℕ) → Over (λ y. y.copy ≡ r / 256) (term_of f m r)
 unfolding term_of fresh Over

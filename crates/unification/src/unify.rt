@@ -63,10 +63,9 @@ fn link(notes: &mut [u32], from: u32, to: u32)
     ensures { notes.new ≡ set notes.old (1 + from) (to + 1) }
 {
     let at = LINKS + fields::wide(from);
-    if notes.len() <= at {
-        return;
+    if at < notes.len() {
+        notes[at] = to + 1;
     }
-    notes[at] = to + 1;
 }
 
 // Whether a variable was looked for in another, in vain.
@@ -75,10 +74,7 @@ fn marked(notes: &[u32], met: u32, variable: u32) -> bool
     ensures { result ≡ true → mark_at notes.now met ≡ variable + 1 }
 {
     let at = MARKS + fields::wide(met);
-    if notes.len() <= at {
-        return false;
-    }
-    notes[at] == variable + 1
+    at < notes.len() && notes[at] == variable + 1
 }
 
 fn mark(notes: &mut [u32], met: u32, variable: u32)
@@ -86,10 +82,9 @@ fn mark(notes: &mut [u32], met: u32, variable: u32)
     ensures { notes.new ≡ set notes.old (mark_places + met) (variable + 1) }
 {
     let at = MARKS + fields::wide(met);
-    if notes.len() <= at {
-        return;
+    if at < notes.len() {
+        notes[at] = variable + 1;
     }
-    notes[at] = variable + 1;
 }
 
 // Whether a free variable occurs in a term under what is bound.
@@ -192,10 +187,7 @@ fn bind(
 fn same_variable(reference: u32, word: u32, variable: u32) -> bool
     ensures { result ≡ names_variable (kind_of word) reference word variable }
 {
-    if fields::kind(word) != 0 {
-        return false;
-    }
-    memory::variable_at(reference, word) == variable
+    fields::kind(word) == 0 && memory::variable_at(reference, word) == variable
 }
 
 #[cycle(meet_meet_all_meet_applied)]
@@ -266,10 +258,7 @@ fn meet_applied(
 fn same_function(word: u32, other: u32) -> bool
     ensures { result ≡ true → (kind_of word ≡ 1) × (word ≡ other) }
 {
-    if fields::kind(word) != 1 {
-        return false;
-    }
-    word == other
+    fields::kind(word) == 1 && word == other
 }
 
 // So many pairs of terms from two references on, from left to right. In place of two applications of one symbol stand their arguments.
@@ -367,10 +356,8 @@ fn is_free(work: &[u32], reference: u32, word: u32) -> bool
     requires { (length work.now ≡ work_words) × (kind_of word ≡ 0 → variable_at reference word < most_variables) }
     ensures { result ≡ true → (kind_of word ≡ 0) × (bound_at work.now (variable_at reference word) ≡ 0) }
 {
-    if fields::kind(word) != 0 {
-        return false;
-    }
-    work[memory::BOUND + fields::wide(memory::variable_at(reference, word))] == 0
+    fields::kind(word) == 0
+        && work[memory::BOUND + fields::wide(memory::variable_at(reference, word))] == 0
 }
 
 // The atoms of a leaf and of the literal by which the newest copy was entered. As long as none but the copy's own variables are bound,
@@ -412,10 +399,8 @@ pub fn undo(work: &mut [u32], kept: u32)
     requires { ((f : List ℕ) × Good f work.old) × (kept ≤ count_of work.old) }
     ensures { (f : List ℕ) → Good f work.old → Undone f work.old work.new kept }
 {
-    let mut count = work[memory::COUNT];
-    while kept < count {
-        count -= 1;
-        let variable = work[memory::TRAIL + fields::wide(count)];
+    for i in (kept..work[memory::COUNT]).rev() {
+        let variable = work[memory::TRAIL + fields::wide(i)];
         work[memory::BOUND + fields::wide(variable)] = 0;
     }
     work[memory::COUNT] = kept;
