@@ -51,6 +51,7 @@ pub fn past(scan: Scan, word: u32) -> Scan
 }
 
 // The literal word of the other sign.
+#[tactic(auto, using(crate::proofs::Scans::flipped))]
 pub fn other_sign(word: u32) -> u32
     ensures { result ≡ other_sign word }
 {

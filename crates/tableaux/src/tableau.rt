@@ -18,6 +18,7 @@ pub struct Place {
     pub steps: u32,
 }
 
+#[tactic(auto, unfolding(crate::specs::Leaves::noted))]
 fn note(work: &mut [u32], leaf: u32, literal: u32, parent: u32, next: u32)
     requires { (length work.old ≡ work_words) × (leaf < most_leaves) }
     ensures { work.new ≡ noted work.old leaf literal parent next }
@@ -29,13 +30,11 @@ fn note(work: &mut [u32], leaf: u32, literal: u32, parent: u32, next: u32)
 }
 
 // Whether a word's literal hangs as a leaf: it is not the one entered.
+#[tactic(auto, unfolding(crate::specs::Leaves::hangs))]
 pub fn hangs(word: u32, offset: u32, entered: u32) -> bool
     ensures { result ≡ hangs entered offset word }
 {
-    if fields::kind(word) == 2 {
-        return offset != entered;
-    }
-    false
+    fields::kind(word) == 2 && offset != entered
 }
 
 // The head after a leaf that has so many hung leaves right of it.
