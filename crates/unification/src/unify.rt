@@ -29,6 +29,7 @@ const LINKS: usize = 1;
 const MARKS: usize = 8449;
 
 // One term fewer may be looked into. Whether none is left.
+#[tactic(auto, using(crate::proofs::Thorough::spend_thorough, crate::proofs::Thorough::spend_one))]
 fn spend(notes: &mut [u32]) -> bool
     requires { 0 < spare_of notes.old }
     ensures { Spent notes.old notes.new result }
