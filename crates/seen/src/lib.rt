@@ -15,12 +15,10 @@ fn flag_seen(file: &[u32], question: usize, present: &mut [bool])
     requires { Ready file.now question × (length present.old ≡ length (table_in file.now).clauses) }
     ensures { present.new ≡ seen_flags (table_in file.now) }
 {
-    let mut number = 0;
     let mut at = 0;
-    while at < question {
+    for number in 0..present.len() {
         present[number] = !fields::restricted(file[at]);
         at = dropping::after(file, at);
-        number += 1;
     }
 }
 

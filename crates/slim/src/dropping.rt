@@ -21,17 +21,7 @@ pub fn after(file: &[u32], at: usize) -> usize
 fn same_words(left: &[u32], right: &[u32]) -> bool
     ensures { result ≡ same_words left.now right.now }
 {
-    if left.len() != right.len() {
-        return false;
-    }
-    let mut i = 0;
-    while i < left.len() {
-        if left[i] != right[i] {
-            return false;
-        }
-        i += 1;
-    }
-    true
+    left == right
 }
 
 // Whether the clause of this number, which begins here, has the words of an earlier one.
@@ -40,15 +30,13 @@ fn repeats(file: &[u32], question: usize, number: usize, at: usize) -> bool
     ensures { result ≡ repeats (table_in file.now) number }
 {
     let end = after(file, at);
-    let mut i = 0;
     let mut next = 0;
-    while i < number {
+    for _ in 0..number {
         let start = next;
         next = after(file, start);
         if same_words(&file[start..next], &file[at..end]) {
             return true;
         }
-        i += 1;
     }
     false
 }
@@ -58,12 +46,10 @@ fn first(file: &[u32], question: usize, present: &mut [bool])
     requires { Ready file.now question × (length present.old ≡ length (table_in file.now).clauses) }
     ensures { present.new ≡ unrepeated (table_in file.now) }
 {
-    let mut number = 0;
     let mut at = 0;
-    while at < question {
+    for number in 0..present.len() {
         present[number] = !repeats(file, question, number, at);
         at = after(file, at);
-        number += 1;
     }
 }
 
@@ -84,14 +70,11 @@ fn mark_words(words: &[u32], marks: &mut [bool])
     requires { length marks.old ≡ 65536 }
     ensures { Marked words.now marks.old marks.new }
 {
-    let mut i = 0;
-    while i < words.len() {
-        let w = words[i];
-        i += 1;
-        if fields::kind(w) != 2 {
+    for w in words {
+        if fields::kind(*w) != 2 {
             continue;
         }
-        marks[kind_index(w)] = true;
+        marks[kind_index(*w)] = true;
     }
 }
 
@@ -101,14 +84,11 @@ fn mark(file: &[u32], question: usize, present: &[bool], marks: &mut [bool])
     requires marks_value { marks.old ≡ replicate 65536 false }
     ensures { Marks (body_words (remaining (table_in file.now) present.now)) marks.new }
 {
-    let mut number = 0;
     let mut next = 0;
-    while next < question {
+    for still in present {
         let at = next;
-        let clause = number;
         next = after(file, at);
-        number += 1;
-        if !present[clause] {
+        if !*still {
             continue;
         }
         mark_words(&file[at..next], marks);
@@ -122,14 +102,11 @@ fn lonely(words: &[u32], marks: &[bool]) -> bool
     requires { length marks.now ≡ 65536 }
     ensures { result ≡ some_of (lonely marks.now) words.now }
 {
-    let mut i = 0;
-    while i < words.len() {
-        let w = words[i];
-        i += 1;
-        if fields::kind(w) != 2 {
+    for w in words {
+        if fields::kind(*w) != 2 {
             continue;
         }
-        if !marks[opposite_index(w)] {
+        if !marks[opposite_index(*w)] {
             return true;
         }
     }
@@ -142,21 +119,18 @@ fn sweep(file: &[u32], question: usize, present: &mut [bool], marks: &[bool]) ->
     requires marks { Marks (body_words (remaining (table_in file.now) present.old)) marks.now }
     ensures { Swept (table_in file.now) present.old present.new result }
 {
-    let mut number = 0;
     let mut next = 0;
     let mut dropped = false;
-    while next < question {
+    for number in 0..present.len() {
         let at = next;
-        let this = number;
         next = after(file, at);
-        number += 1;
-        if !present[this] {
+        if !present[number] {
             continue;
         }
         if !lonely(&file[at..next], marks) {
             continue;
         }
-        present[this] = false;
+        present[number] = false;
         dropped = true;
     }
     dropped
@@ -177,11 +151,9 @@ pub(crate) fn settle(file: &[u32], question: usize, present: &mut [bool])
     ensures { present.new ≡ kept_flags (table_in file.now) }
 {
     first(file, question, present);
-    let mut left = present.len();
-    while left > 0 {
+    for _ in 0..present.len() {
         if !round(file, question, present) {
             return;
         }
-        left -= 1;
     }
 }
