@@ -34,16 +34,13 @@ fn same_disjunct(file: &[u32], work: &mut [u32], copy: u32, other: u32) -> bool
 {
     let own = copy * 256;
     let count = fields::following(memory::word_at(file, work, own));
-    let mut offset: u32 = 1;
-    while offset <= count {
+    for offset in 1..count + 1 {
         if fields::kind(memory::word_at(file, work, own + offset)) != 2 {
-            offset += 1;
             continue;
         }
         if !same_atom(file, work, own + offset, other * 256 + offset) {
             return false;
         }
-        offset += 1;
     }
     true
 }
@@ -53,9 +50,7 @@ fn said_before(file: &[u32], work: &mut [u32], copy: u32) -> bool
     requires { Next file.now work.old (start_at work.old copy) copy }
     ensures { Compared file.now work.old work.new result (said_before file.now work.old copy) }
 {
-    let mut earlier = copy;
-    while earlier != 0 {
-        earlier -= 1;
+    for earlier in (0..copy).rev() {
         if work[memory::KEPT + fields::wide(earlier)] == 0 {
             continue;
         }
@@ -85,11 +80,8 @@ pub fn choose(file: &[u32], work: &mut [u32], question: u32)
     requires { Good file.now work.old }
     ensures { Chose file.now work.old work.new question }
 {
-    let copies = work[memory::COPIES];
-    let mut copy: u32 = 0;
-    while copy < copies {
+    for copy in 0..work[memory::COPIES] {
         let kept = weigh(file, work, question, copy);
         work[memory::KEPT + fields::wide(copy)] = kept;
-        copy += 1;
     }
 }
