@@ -20,14 +20,12 @@ pub(crate) fn replay(
 {
     check::prepare(file, work, true);
     let mut place = tableau::begin(file, work, question);
-    let mut i = 0;
-    while i < steps.len() {
-        let judged = check::step_taken(file, work, true, question, conditions, place, steps[i]);
+    for step in steps {
+        let judged = check::step_taken(file, work, true, question, conditions, place, *step);
         let Judged::On(next) = judged else {
             return false;
         };
         place = next;
-        i += 1;
     }
     true
 }

@@ -33,11 +33,9 @@ use Rattle.engine.specs.declared.search.Searched.{Searched}
 use Rattle.engine.specs.declared.search.Ending.{Ending}
 use Rattle.engine.specs.declared.search.Ending.TheVariants.{Found as AFound, Nothing, Out}
 use Rattle.answers.specs.declared.answer.Answer.{Answer}
-use Rattle.answers.specs.declared.answer.Room.{Room}
-use Rattle.answers.specs.declared.answer.Room.TheVariants.{Left, Over}
+use Rattle.std.specs.Prelude.{Option, Some, None, Result, Ok, Err}
 use Rattle.hukolearu.specs.Door.{Admitted, entry_of}
-use Rattle.hukolearu.specs.declared.door.Entry.{Entry}
-use Rattle.hukolearu.specs.declared.door.Entry.TheVariants.{Open as OpenDoor, Refused as RefusedAtDoor}
+use Rattle.hukolearu.specs.declared.door.Refusal.{Refusal}
 use Rattle.hukolearu.specs.declared.door.Inputs.{Inputs}
 use Rattle.hukolearu.proofs.DoorLaws.{question_stands, opened, shut, inside}
 
@@ -225,32 +223,32 @@ pub wrote_told : {f m a m' a' : List ℕ} {w : Answer} (proof tries : ℕ) → A
     (record { status = 0; place = 0; proof = proof; disjuncts = w.disjuncts; answer = w.words; tries = tries }) [] [] a a'
 wrote_told proof tries h = record { numbers = rw (h.words, h.disjuncts); steps = refl; words = h.answer }
 
-pub fits_over : {q : Room} {room : ℕ} (words needed : ℕ) → room ≡ room_of words → Counted room needed q → q ≡ Over → false ≡ leb needed (room_of words)
+pub fits_over : {q : Option ℕ} {room : ℕ} (words needed : ℕ) → room ≡ room_of words → Counted room needed q → q ≡ None → false ≡ leb needed (room_of words)
 fits_over {q} {room} words needed e counted o =
-    let over : room < needed = subst (λ (x : Room). Counted room needed x) o counted in
+    let over : room < needed = subst (λ (x : Option ℕ). Counted room needed x) o counted in
     sym (lt-leb needed (room_of words) (omega arith))
 
-pub fits_left : {q : Room} {room left : ℕ} (words needed : ℕ) → room ≡ room_of words → Counted room needed q → q ≡ Left left → true ≡ leb needed (room_of words)
+pub fits_left : {q : Option ℕ} {room left : ℕ} (words needed : ℕ) → room ≡ room_of words → Counted room needed q → q ≡ Some left → true ≡ leb needed (room_of words)
 fits_left {q} {room} {left} words needed e counted o =
-    let over : left + needed ≡ room = subst (λ (x : Room). Counted room needed x) o counted in
+    let over : left + needed ≡ room = subst (λ (x : Option ℕ). Counted room needed x) o counted in
     sym (le-leb needed (room_of words) (omega arith))
 
 -- as the count of what was chosen ended
-module _ {f m m' : List ℕ} {question : ℕ} (c : Chose f m m' question) (q : Room) {room : ℕ} (words : ℕ) (e : room ≡ room_of words) (counted : Counted room (length (answer_held f m')) q) where
+module _ {f m m' : List ℕ} {question : ℕ} (c : Chose f m m' question) (q : Option ℕ) {room : ℕ} (words : ℕ) (e : room ≡ room_of words) (counted : Counted room (length (answer_held f m')) q) where
   same_length : length (answer_held f m') ≡ length (words_of (disjuncts_held f m question))
   same_length = ap (λ (ds : List (List (Literal Variable))). length (words_of ds)) c.once
 
-  pub chosen_over : q ≡ Over → Fits f m m' question words false
+  pub chosen_over : q ≡ None → Fits f m m' question words false
   chosen_over o = record { chose = c; says = fits_over words _ e counted o ∙ ap (λ (n : ℕ). leb n (room_of words)) same_length }
 
-  pub chosen_left : {left : ℕ} → q ≡ Left left → Fits f m m' question words true
+  pub chosen_left : {left : ℕ} → q ≡ Some left → Fits f m m' question words true
   chosen_left o = record { chose = c; says = fits_left words _ e counted o ∙ ap (λ (n : ℕ). leb n (room_of words)) same_length }
 
-pub held_by_room : (f m m' : List ℕ) (question steps : ℕ) (proof : List ℕ) (tries words : ℕ) (q : Room) → Chose f m m' question
+pub held_by_room : (f m m' : List ℕ) (question steps : ℕ) (proof : List ℕ) (tries words : ℕ) (q : Option ℕ) → Chose f m m' question
     → Counted (room_of words) (length (answer_held f m')) q
     → held f m question steps proof tries words ≡ by_room q tries (granted steps proof (length (disjuncts_kept f m')) (answer_held f m') tries)
-held_by_room f m m' question steps proof tries words (Left left) c counted = held-fitting (chosen_left c (Left left) words refl counted refl) steps proof tries refl
-held_by_room f m m' question steps proof tries words Over c counted = held_over (chosen_over c Over words refl counted refl) steps proof tries refl
+held_by_room f m m' question steps proof tries words (Some left) c counted = held-fitting (chosen_left c (Some left) words refl counted refl) steps proof tries refl
+held_by_room f m m' question steps proof tries words None c counted = held_over (chosen_over c None words refl counted refl) steps proof tries refl
 
 pub ruleset fit_laws = (chosen_over, chosen_left)
 
@@ -262,22 +260,22 @@ pub all_passed : {f : List ℕ} {i : Inputs} (w : List ℕ) {question : ℕ} →
 all_passed w a asked enough = record { room = length-take-le work_words w (omega arith); judged = a.good_file; asked = asked; low = a.low_bound }
 
 -- what a call tells by what it learns at the door, by any profile's rules
-module _ (rules : Profile) (a : SearchAsked) {entry : Entry} (says : entry ≡ entry_of a.file (inputs_by rules a)) where
-  pub search_refused : {status place : ℕ} → entry ≡ RefusedAtDoor status place → search_by rules a ≡ refused status place 0
+module _ (rules : Profile) (a : SearchAsked) {entry : Result ℕ Refusal} (says : entry ≡ entry_of a.file (inputs_by rules a)) where
+  pub search_refused : {r : Refusal} → entry ≡ Err r → search_by rules a ≡ refused r.status r.place 0
   unfolding search_by
   search_refused e = shut a.file (inputs_by rules a) says e refused_by _
 
-  pub search_admitted : {question : ℕ} → entry ≡ OpenDoor question
+  pub search_admitted : {question : ℕ} → entry ≡ Ok question
       → search_by rules a ≡ search_given (over rules (table_in a.file) a.bound) a.answer_room (search_for (over rules (table_in a.file) a.bound) a.budget)
   unfolding search_by
   search_admitted e = inside (opened a.file (inputs_by rules a) says e) refused_by _
 
-module _ (rules : Profile) (a : CheckAsked) {entry : Entry} (says : entry ≡ entry_of a.file (check_inputs a)) where
-  pub check_refused : {status place : ℕ} → entry ≡ RefusedAtDoor status place → check_by rules a ≡ refused status place 0
+module _ (rules : Profile) (a : CheckAsked) {entry : Result ℕ Refusal} (says : entry ≡ entry_of a.file (check_inputs a)) where
+  pub check_refused : {r : Refusal} → entry ≡ Err r → check_by rules a ≡ refused r.status r.place 0
   unfolding check_by
   check_refused e = shut a.file (check_inputs a) says e refused_by _
 
-  pub check_admitted : {question : ℕ} → entry ≡ OpenDoor question
+  pub check_admitted : {question : ℕ} → entry ≡ Ok question
       → check_by rules a
       ≡ check_given (table_in a.file) (length a.offered) a.answer_room (check (over rules (table_in a.file) a.bound) (read_steps rules a.offered))
   unfolding check_by

@@ -1,8 +1,6 @@
 -- The engine's own enums as document 01's numbers and values: what a call gives, for each case of an enum that is an answer.
 -- The words of a step are `words/Steps.stepWord`, the status of a step judged is `engine/Checking.statusFor`, the door's entry is `Door.entryBy`.
-use Rattle.std.specs.Prelude.{ℕ, ◌-◌}
-use Rattle.answers.specs.declared.answer.Room.{Room}
-use Rattle.answers.specs.declared.answer.Room.TheVariants.{Left, Over}
+use Rattle.std.specs.Prelude.{Option, Some, None, ℕ, ◌-◌}
 use Rattle.engine.specs.declared.check.Verdict.{Verdict}
 use Rattle.engine.specs.declared.check.Verdict.TheVariants.{Accepted, Refused}
 use Rattle.engine.specs.declared.search.Ending.{Ending}
@@ -22,6 +20,6 @@ by_verdict (Accepted steps) accepted = accepted steps
 by_verdict (Refused status place) accepted = refused status place 0
 
 -- the room for an answer, with the search's tries: it fits; 16, answer longer than its buffer
-abbrev pub by_room : Room → ℕ → Given → Given
-by_room (Left words) tries fitting = fitting
-by_room Over tries fitting = refused Status.answer_too_long 0 tries
+abbrev pub by_room : Option ℕ → ℕ → Given → Given
+by_room (Some words) tries fitting = fitting
+by_room None tries fitting = refused Status.answer_too_long 0 tries

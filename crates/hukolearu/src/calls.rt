@@ -11,9 +11,8 @@ ghost use Rattle.hukolearu.specs.Door.{work_after};
 ghost use Rattle.hukolearu.specs.Calls.{refused, granted, room_of, search_given, check_given, search_by, search_call, search_with, check_by, check_call, check_with, at_front};
 ghost use Rattle.hukolearu.specs.Telling.{Told, Passed, Answerable, Fits, Writable, held};
 
-use crate::door::{Entry, Inputs};
+use crate::door::Inputs;
 use crate::{Outcome, door, status};
-use answers::answer::Room;
 use answers::{answer, once};
 use engine::check::Verdict;
 use engine::search::Ending;
@@ -64,11 +63,7 @@ fn fits(file: &[u32], work: &mut [u32], question: u32, words: usize) -> bool
     ensures { Fits file.now work.old work.new question words result }
 {
     once::choose(file, work, question);
-    let room = answer::room_after(file, work, room_of(words));
-    let Room::Left(_) = room else {
-        return false;
-    };
-    true
+    answer::room_after(file, work, room_of(words)).is_some()
 }
 
 // The answer, which fits, is written.
@@ -92,11 +87,7 @@ fn copy_steps(work: &[u32], proof: &mut [u32], count: u32)
     ensures { proof.new ≡ at_front (take count (drop step_places work.now)) proof.old }
 {
     let n = fields::wide(count);
-    let mut i = 0;
-    while i < n {
-        proof[i] = work[memory::STEPS + i];
-        i += 1;
-    }
+    proof[..n].copy_from_slice(&work[memory::STEPS..memory::STEPS + n]);
 }
 
 // The steps that a search found and their answer, if it fits.
@@ -184,13 +175,12 @@ pub fn search_by(
         proof: proof.len(),
         least,
     };
-    let entry = door::enter(file, inputs);
-    match entry {
-        Entry::Refused(status, place) => {
+    match door::enter(file, inputs) {
+        Err(refusal) => {
             door::leave(work);
-            refused(status, place, 0)
+            refused(refusal.status, refusal.place, 0)
         }
-        Entry::Open(question) => {
+        Ok(question) => {
             let outcome = searched_by(
                 file,
                 question,
@@ -280,13 +270,12 @@ pub fn check_by(
         proof: 0,
         least: 0,
     };
-    let entry = door::enter(file, inputs);
-    match entry {
-        Entry::Refused(status, place) => {
+    match door::enter(file, inputs) {
+        Err(refusal) => {
             door::leave(work);
-            refused(status, place, 0)
+            refused(refusal.status, refusal.place, 0)
         }
-        Entry::Open(question) => {
+        Ok(question) => {
             let outcome = checked(
                 file,
                 question,

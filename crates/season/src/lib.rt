@@ -6,7 +6,7 @@ ghost use Rattle.table.specs.File.{judge};
 ghost use Rattle.season.specs.Season.{refused_report, entries_fit, season_with, report_of, proof_after, answer_after, work_left};
 ghost use Rattle.season.specs.Asking.{Tabled, Lent, Reported};
 
-use hukolearu::door::{Entry, Inputs};
+use hukolearu::door::Inputs;
 use hukolearu::{calls, door};
 use table::build;
 use words::{fields, fingerprint, room};
@@ -125,13 +125,12 @@ pub fn season(
         proof: proof.len(),
         least: calls::LONGEST_PROOF,
     };
-    let entry = door::enter(table, inputs);
-    match entry {
-        Entry::Refused(status, place) => {
+    match door::enter(table, inputs) {
+        Err(refusal) => {
             door::leave(work);
-            refused(status, place)
+            refused(refusal.status, refusal.place)
         }
-        Entry::Open(_) => {
+        Ok(_) => {
             if !entries_fit(entries.len()) {
                 door::leave(work);
                 return refused(ENTRIES_WRONG, 0);
