@@ -5,7 +5,7 @@ use crate::arguments::Options;
 use crate::streams::Stream;
 use crate::{arguments, files, telling};
 use assistant::{place, refusal};
-use clausetext::judge::{Verdict, judge_text};
+use clausetext::judge::judge_text;
 use clausetext::stuck;
 use naming::lookup;
 use reports::{clauses, counts};
@@ -175,17 +175,16 @@ fn ask_next(
 ) -> io::Result<Report> {
     let clause = part::rest(part::front(questions, end), from);
     let mut space = [0u8; 4096];
-    let verdict = judge_text(clause);
-    match verdict {
-        Verdict::Wrong(place) => tell_wrong(rt, name, questions, from, plus(from, place)),
-        Verdict::Fine(clauses, asked) => {
-            if clauses == 0 {
+    match judge_text(clause) {
+        Err(place) => tell_wrong(rt, name, questions, from, plus(from, place)),
+        Ok(counts) => {
+            if counts.clauses == 0 {
                 return Ok(before(0));
             }
             let at = plus(from, stuck::question_name(clause, 1));
             let n = label(&mut space, name, questions, at);
             let place = part::front(&space, n);
-            if asked == 0 {
+            if counts.questions == 0 {
                 return tell_no_question(rt, place);
             }
             ask_clause(rt, limit, budget, table, place, clause)
@@ -244,9 +243,8 @@ fn put_season(
     list: &[u8],
     questions: &[u8],
 ) -> io::Result<()> {
-    let verdict = judge_text(text);
-    match verdict {
-        Verdict::Wrong(place) => {
+    match judge_text(text) {
+        Err(place) => {
             let read = TextRead {
                 status: 17,
                 place: narrow(place),
@@ -255,7 +253,7 @@ fn put_season(
             telling::refuse(rt, Stream::Output, name, text, read)?;
             telling::status_line(rt, name, b"InputError")
         }
-        Verdict::Fine(_, _) => ask_table(rt, o, name, text, list, questions),
+        Ok(_) => ask_table(rt, o, name, text, list, questions),
     }
 }
 

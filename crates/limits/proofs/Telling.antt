@@ -1,4 +1,5 @@
 -- What is said of a text that passes a limit, with premises as the code has them.
+use Rattle.std.specs.Prelude.{Err}
 use mathlib.Core.Bool.{Bool, true, false}
 use mathlib.Core.List.{List, [], ◌∷◌}
 use mathlib.Core.Path.{◌≡◌, refl, sym, ap, ◌∙◌}
@@ -6,11 +7,9 @@ use Prim.Native.Nat.{ℕ, zero, suc, ◌≤◌, ◌<◌}
 use native.Mathlib.Omega.{arith}
 use denote.Ref.{Bor}
 use lib.ListN.{length, get_or, length-map}
-use Rattle.clausetext.specs.declared.judge.Verdict.{Verdict}
-use Rattle.clausetext.specs.declared.judge.Verdict.TheVariants.{Wrong}
 use Rattle.clausetext.specs.Judging.{judged}
 use Rattle.clausetext.specs.Syntax.{Clause}
-use Rattle.clausetext.specs.Texts.{Says, Permitted, Verdicts, fine}
+use Rattle.clausetext.specs.Texts.{Verdict, Says, Permitted, Verdicts, fine}
 use Rattle.clausetext.proofs.Judgement.{only_verdict}
 use Rattle.clausetext.proofs.OneReading.{one_reading}
 use Rattle.names.specs.Numbers.{Name}
@@ -102,7 +101,7 @@ clause_told file text a b q r = record { put = λ cs y h. then (then (then a b) 
 
 -- a permitted text is not wrong
 module _ {text : List ℕ} (short : length text ≤ 65536) (g : Permitted text) where
-  not-wrong : {A : Type 0} {place : ℕ} → Verdicts text (Wrong place) → A
+  not-wrong : {A : Type 0} {place : ℕ} → Verdicts text (Err place) → A
   not-wrong w = let a = only_verdict w in let b = only_verdict (fine short g.says) in let z : ◌≡◌ {A = ℕ} 0 1 = cc in absurd (omega arith)
 
   module _ (file : List ℕ) {p : Passed} (f : Finds text p) {b : Bool} (n : b ≡ is_nothing p.limit) {o o' : List ℕ} {at end : ℕ} where
@@ -128,7 +127,7 @@ module _ {text : List ℕ} (short : length text ≤ 65536) (g : Permitted text) 
 
 pub ruleset over_laws = (over_told, none_told)
 
-pub wrong_untold : (file text : List ℕ) {v : Verdict} → v ≡ judged text → {place : ℕ} → v ≡ Wrong place → {out : List ℕ} {at : ℕ} → Told file text out at out at
+pub wrong_untold : (file text : List ℕ) {v : Verdict} → v ≡ judged text → {place : ℕ} → v ≡ Err place → {out : List ℕ} {at : ℕ} → Told file text out at out at
 wrong_untold file text is e {out} {at} = record {
   over = λ short cs y. let o = only_verdict (fine short y) in let z : ◌≡◌ {A = ℕ} 0 1 = cc in absurd (omega arith);
   wrong = λ _. finish (begin out at []);

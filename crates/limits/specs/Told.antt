@@ -1,7 +1,6 @@
 -- What is said of a text that passes a limit: the file, the clause by its name, and the limit.
-use Rattle.std.specs.Prelude.{Bool, cond, List, [], ◌++◌, ℕ, ◌≤◌, ◌<◌, length, get_or}
+use Rattle.std.specs.Prelude.{Err, Bool, cond, List, [], ◌++◌, ℕ, ◌≤◌, ◌<◌, length, get_or}
 use Rattle.clausetext.specs.Syntax.{Clause}
-use Rattle.clausetext.specs.declared.judge.Verdict.TheVariants.{Wrong}
 use Rattle.clausetext.specs.Texts.{Says, Verdicts}
 use Rattle.naming.specs.Clauses.{names_of}
 use Rattle.text.specs.Put.{Put}
@@ -32,7 +31,7 @@ over_text file o =
 -- what is written of a text: the line where it can be read, nothing where it is wrong
 pub record Told (file text out : List ℕ) (at : ℕ) (out' : List ℕ) (r : ℕ) : Type 0 where
   pub over : length text ≤ 65536 → (cs : List Clause) → Says text cs → Put out at (over_text file (first_over [] cs)) out' r
-  pub wrong : {place : ℕ} → Verdicts text (Wrong place) → Put out at [] out' r
+  pub wrong : {place : ℕ} → Verdicts text (Err place) → Put out at [] out' r
 
 -- the name of a clause, the so-many-th of its sort
 pub record NamePut (text : List ℕ) (asked : Bool) (number : ℕ) (out : List ℕ) (at : ℕ) (out' : List ℕ) (r : ℕ) : Type 0 where

@@ -5,7 +5,7 @@ ghost use Rattle.text.specs.Put.{Put};
 ghost use Rattle.limits.specs.Told.{limit_text, NamePut, ClauseTold, Told};
 
 use crate::find::{Limit, Passed, find, is_nothing};
-use clausetext::judge::{Verdict, judge_text};
+use clausetext::judge::judge_text;
 use naming::clauses::put_names;
 use naming::lookup;
 use text::put;
@@ -95,12 +95,12 @@ fn over_text(out: &mut [u8], at: usize, file: &[u8], text: &[u8]) -> usize
 }
 
 // 19: the clause and the limit that it passes; nothing is written of a text that cannot be read.
+
 pub fn over(out: &mut [u8], at: usize, file: &[u8], text: &[u8]) -> usize
     ensures { Told file.now text.now out.old at out.new result }
 {
-    let verdict = judge_text(text);
-    match verdict {
-        Verdict::Wrong(_) => at,
-        Verdict::Fine(_, _) => over_text(out, at, file, text),
+    match judge_text(text) {
+        Err(_) => at,
+        Ok(_) => over_text(out, at, file, text),
     }
 }

@@ -1,4 +1,6 @@
 -- An index made of a text's items, with premises as the code has them.
+use Rattle.std.specs.Prelude.{Ok, Err}
+use Rattle.clausetext.specs.declared.judge.Counts.{Counts}
 use mathlib.Core.Bool.{Bool, true, false, cond}
 use mathlib.Core.List.{List, [], ◌∷◌, ◌++◌, map}
 use mathlib.Core.Path.{◌≡◌, refl, sym, ap, ap₂, subst, ◌∙◌}
@@ -12,10 +14,8 @@ use lib.Seq.{length-take-le, get_or-take, get_or-drop, take-append_seam, drop-ap
 use Rattle.words.specs.Fields.{kind_of, symbol_of, function_word, literal_word}
 use Rattle.words.proofs.Packed.{function_kind, literal_kind}
 use Rattle.clausetext.specs.Syntax.{Clause}
-use Rattle.clausetext.specs.declared.judge.Verdict.{Verdict}
-use Rattle.clausetext.specs.declared.judge.Verdict.TheVariants.{Wrong, Fine}
 use Rattle.clausetext.specs.Judging.{judged}
-use Rattle.clausetext.specs.Texts.{Permitted, Verdicts, long, wrong, fine}
+use Rattle.clausetext.specs.Texts.{Verdict, counts, Permitted, Verdicts, long, wrong, fine}
 use Rattle.clausetext.proofs.Judgement.{judged_verdict, only_verdict}
 use Rattle.clausetext.proofs.OneReading.{one_reading}
 use Rattle.table.specs.Limits.{Each}
@@ -237,12 +237,12 @@ cleared_unnamed text index {end} e l c = record {
 }
 
 -- a permitted text
-fine_permitted : {text : List ℕ} {v : Verdict} {n q : ℕ} → Verdicts text v → v ≡ Fine n q → (length text ≤ 65536) × Permitted text
+fine_permitted : {text : List ℕ} {v : Verdict} {c : Counts} → Verdicts text v → v ≡ Ok c → (length text ≤ 65536) × Permitted text
 fine_permitted (long h) e = let z : ◌≡◌ {A = ℕ} 0 1 = cc in absurd (omega (arith, z))
 fine_permitted (wrong h w) e = let z : ◌≡◌ {A = ℕ} 0 1 = cc in absurd (omega (arith, z))
 fine_permitted (fine {cs = cs} h y) e = (h, record { said = cs; says = y })
 
-module _ (text : List ℕ) {v : Verdict} (is : v ≡ judged text) {n q : ℕ} (e : v ≡ Fine n q) where
+module _ (text : List ℕ) {v : Verdict} (is : v ≡ judged text) {c : Counts} (e : v ≡ Ok c) where
   pub fine_short : length text ≤ 65536
   fine_short = (fine_permitted {text = text} (rw is (judged_verdict text)) e).0
 
@@ -258,7 +258,7 @@ items_ready {marks = marks} e h u few =
     ((rw (z, room), rw (z, room) (sym e), h), u)
 
 -- a wrong text is none of them
-pub wrong_refused : (text : List ℕ) {v : Verdict} → v ≡ judged text → {place : ℕ} → v ≡ Wrong place → (cs : List Clause) → Admissible text cs → ⊥
+pub wrong_refused : (text : List ℕ) {v : Verdict} → v ≡ judged text → {place : ℕ} → v ≡ Err place → (cs : List Clause) → Admissible text cs → ⊥
 wrong_refused text {v} is {place} e cs a =
-    let one : judged text ≡ Fine _ _ = only_verdict (fine a.limited a.says) in
+    let one : judged text ≡ counts _ _ = only_verdict (fine a.limited a.says) in
     let z : ◌≡◌ {A = ℕ} 0 1 = cc in omega (arith, z)

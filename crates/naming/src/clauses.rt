@@ -81,6 +81,7 @@ fn sign_stage(stage: usize, mark: Mark) -> usize
 }
 
 // Puts down where the names of the clauses stand that are questions, or of those that are not, in the order of the text.
+#[tactic(auto, using(crate::proofs::ClauseNames::names_laws))]
 pub fn put_names(text: &[u8], asked: bool, out: &mut [u32], from: usize) -> usize
     requires { (length text.now ≤ 65536) × Permitted text.now }
     ensures { NamesPut text.now asked out.old from out.new result }
@@ -89,27 +90,23 @@ pub fn put_names(text: &[u8], asked: bool, out: &mut [u32], from: usize) -> usiz
     let mut name = 0;
     let mut end = from;
     let mut at = 0;
-    loop {
-        let lexeme = token::next(text, at);
+    while let Some(lexeme) = token::next(text, at) {
         match lexeme {
-            Lexeme::Word(start, stop) => {
+            Lexeme::Word { start, stop } => {
                 end = put_name(text, asked, stage, name, start, out, end);
                 name = kept_name(stage, name, start as u32);
                 stage = next_stage(stage);
                 at = stop;
-                continue;
             }
-            Lexeme::Capital(_, stop) => {
+            Lexeme::Capital { stop, .. } => {
                 stage = next_stage(stage);
                 at = stop;
-                continue;
             }
-            Lexeme::Sign(mark, next) => {
+            Lexeme::Sign { mark, stop } => {
                 stage = sign_stage(stage, mark);
-                at = next;
-                continue;
+                at = stop;
             }
-            Lexeme::Over => return end,
         }
     }
+    end
 }

@@ -249,6 +249,7 @@ fn on_mark(inner: &mut [u32], p: Progress, mark: Mark) -> Progress
     }
 }
 
+#[tactic(auto, using(crate::proofs::Walk::walk_laws))]
 // Gathers the items of a permitted text, and tells how many there are.
 pub fn gather(text: &[u8], marks: &mut [u32], places: &mut [u32], inner: &mut [u32]) -> usize
     requires { (length text.now ≤ 65536) × Permitted text.now × Empty marks.old places.old inner.old }
@@ -261,25 +262,21 @@ pub fn gather(text: &[u8], marks: &mut [u32], places: &mut [u32], inner: &mut [u
         negative: false,
     };
     let mut at = 0;
-    loop {
-        let lexeme = token::next(text, at);
+    while let Some(lexeme) = token::next(text, at) {
         match lexeme {
-            Lexeme::Word(start, stop) => {
+            Lexeme::Word { start, stop } => {
                 p = on_word(text, marks, places, inner, p, start as u32);
                 at = stop;
-                continue;
             }
-            Lexeme::Capital(start, stop) => {
+            Lexeme::Capital { start, stop } => {
                 p = on_capital(marks, places, inner, p, start as u32);
                 at = stop;
-                continue;
             }
-            Lexeme::Sign(mark, next) => {
+            Lexeme::Sign { mark, stop } => {
                 p = on_mark(inner, p, mark);
-                at = next;
-                continue;
+                at = stop;
             }
-            Lexeme::Over => return p.count,
         }
     }
+    p.count
 }

@@ -1,4 +1,5 @@
 -- The name of a variable, by the numbers of its clause's words, with premises as the code has them.
+use Rattle.std.specs.Prelude.{Err}
 use mathlib.Core.Bool.{Bool, true, false, cond}
 use mathlib.Core.List.{List, [], ◌∷◌, ◌++◌}
 use mathlib.Core.Path.{◌≡◌, refl, sym, ap, ◌∙◌}
@@ -11,11 +12,9 @@ use lib.Dec.{eqb}
 use lib.ListN.{length, take, drop, get_or, length-append, length-drop, length-map, get_or-append, get_or-eq_default}
 use lib.Seq.{get_or-append_seam}
 use Rattle.words.specs.Fields.{kind_of}
-use Rattle.clausetext.specs.declared.judge.Verdict.{Verdict}
-use Rattle.clausetext.specs.declared.judge.Verdict.TheVariants.{Wrong}
 use Rattle.clausetext.specs.Judging.{judged}
 use Rattle.clausetext.specs.Syntax.{Clause}
-use Rattle.clausetext.specs.Texts.{Says, Permitted, fine}
+use Rattle.clausetext.specs.Texts.{Verdict, Says, Permitted, fine}
 use Rattle.clausetext.proofs.Judgement.{only_verdict}
 use Rattle.clausetext.proofs.OneReading.{one_reading}
 use Rattle.names.specs.Numbers.{Name, noted, known_after, first_uses, number_in}
@@ -165,7 +164,7 @@ said_variable text short p i = record {
   long = λ h. absurd (omega (arith, h, short));
 }
 
-pub wrong_variable : (text : Bor (List ℕ)) {clause wanted : ℕ} {v : Verdict} → v ≡ judged text.now → {place : ℕ} → v ≡ Wrong place → (ptr : ℕ × ℕ)
+pub wrong_variable : (text : Bor (List ℕ)) {clause wanted : ℕ} {v : Verdict} → v ≡ judged text.now → {place : ℕ} → v ≡ Err place → (ptr : ℕ × ℕ)
     → IsVariable text clause wanted (record { ref_ptr = ptr; now = [] })
 wrong_variable text is e ptr = record {
   at = length text.now;

@@ -6,7 +6,7 @@ ghost use Rattle.variable_names.specs.Named.{IsVariable};
 ghost use Rattle.variable_names.specs.Finding.{own_kinds, first_of, Among, IsSaid};
 
 use crate::find::place;
-use clausetext::judge::{Verdict, judge_text};
+use clausetext::judge::judge_text;
 use names::table::number;
 use naming::lookup::name;
 use tptp::last::seek;
@@ -104,9 +104,8 @@ fn in_text(text: &[u8], clause: usize, wanted: usize) -> &[u8]
 pub fn variable(text: &[u8], clause: usize, number: usize) -> &[u8]
     ensures { IsVariable text.entry clause number result }
 {
-    let verdict = judge_text(text);
-    match verdict {
-        Verdict::Wrong(_) => &text[0..0],
-        Verdict::Fine(_, _) => in_text(text, clause, number),
+    match judge_text(text) {
+        Err(_) => &text[0..0],
+        Ok(_) => in_text(text, clause, number),
     }
 }
