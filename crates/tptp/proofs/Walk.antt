@@ -1,9 +1,9 @@
 -- The items of a permitted text gathered to the text's end, with premises as the code has them.
 use Rattle.std.specs.Prelude.{Some, None}
-use mathlib.Core.Bool.{Bool, true, false, cond}
+use mathlib.Core.Bool.{false}
 use mathlib.Core.List.{List, [], ◌∷◌}
 use mathlib.Core.Path.{◌≡◌, refl, ap, ◌∙◌}
-use Prim.Native.Nat.{ℕ, suc, ◌-◌, ◌≤◌, ◌<◌}
+use Prim.Native.Nat.{ℕ, ◌-◌, ◌≤◌, ◌<◌}
 use native.Mathlib.Omega.{arith}
 use lib.ListN.{length, take, drop}
 use mir.Syntax.{w32}
@@ -14,26 +14,16 @@ use Rattle.clausetext.specs.declared.token.Lexeme.TheVariants.{Word, Capital, Si
 use Rattle.clausetext.specs.Syntax.{Clause}
 use Rattle.clausetext.specs.Tokens.{Token, word, capital, mark, Spelt}
 use Rattle.clausetext.specs.Texts.{Says, Permitted}
-use Rattle.clausetext.specs.Lexemes.{word_length, lexeme_at}
+use Rattle.clausetext.specs.Lexemes.{lexeme_at}
 use Rattle.clausetext.proofs.Walking.{WordFound, SignFound, Met, over, lettered, titled, single, met}
 use Rattle.names.specs.Numbers.{Name}
-use Rattle.names.specs.Noting.{name_byte, name_from, name_at}
+use Rattle.names.proofs.Same.{run_taken}
+use Rattle.names.specs.Noting.{name_at}
 use Rattle.tptp.specs.declared.sketch.Progress.{Progress}
 use Rattle.tptp.specs.Sketch.{clauses_items, Gathering, on_token, gather}
 use Rattle.tptp.specs.Memory.{items_of, inner_of, sketch_of, Small, Ready, Further, word_met, capital_met, mark_met, Signed, Deepening, Empty, Gathered}
 use Rattle.tptp.proofs.Gathered.{clauses_gather}
 use Rattle.tptp.proofs.Adding.{items_count}
-
--- a name is the longest run of its bytes
-run_taken : (text : List ℕ) → name_from text ≡ take (word_length text) text
-unfolding name_from word_length
-run_taken [] = refl
-run_taken (c ∷ cs) = go (name_byte c) (run_taken cs)
-  where
-    go : (on : Bool) → name_from cs ≡ take (word_length cs) cs
-        → cond on (c ∷ name_from cs) [] ≡ take (cond on (suc (word_length cs)) 0) (c ∷ cs)
-    go true ih = ap (λ (l : List ℕ). c ∷ l) ih
-    go false ih = refl
 
 pub name_found : {text : List ℕ} {at : ℕ} {w : Name} {ts : List Token} {from stop : ℕ} → WordFound text at w ts from stop → name_at text from ≡ w
 name_found {text} {from = from} f = run_taken (drop from text) ∙ rw f.whole f.bytes
