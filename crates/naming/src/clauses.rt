@@ -30,13 +30,11 @@ fn kept_name(stage: usize, name: u32, start: u32) -> u32
 }
 
 // A role begins with `n` where the clause is a question.
+#[tactic(auto, using(crate::proofs::ClauseNames::role_none, crate::proofs::ClauseNames::role_byte))]
 fn asks(text: &[u8], start: usize) -> bool
     ensures { result ≡ is_question (name_at text.now start) }
 {
-    if text.len() <= start {
-        return false;
-    }
-    text[start] == b'n'
+    start < text.len() && text[start] == b'n'
 }
 
 // At the role of a clause of the wanted sort, its name is put down.
@@ -67,16 +65,13 @@ fn put_name(
 }
 
 // After a sign: the next clause after `.`, else the next token.
+#[tactic(auto, unfolding(crate::specs::Clauses::sign_stage))]
 fn sign_stage(stage: usize, mark: Mark) -> usize
     ensures { result ≡ sign_stage stage mark }
 {
     match mark {
-        Mark::Open => next_stage(stage),
-        Mark::Close => next_stage(stage),
-        Mark::Comma => next_stage(stage),
-        Mark::Bar => next_stage(stage),
-        Mark::Tilde => next_stage(stage),
         Mark::Dot => 0,
+        _ => next_stage(stage),
     }
 }
 

@@ -15,11 +15,7 @@ use tptp::sketch::gather;
 fn clear(index: &mut [u32], end: u32)
     ensures { index.new ≡ replicate (length index.old) end }
 {
-    let mut i = 0;
-    while i < index.len() {
-        index[i] = end;
-        i += 1;
-    }
+    index.fill(end);
 }
 
 // The functions and the predicates of numbered words.
