@@ -10,7 +10,7 @@ use unification::unify::Unmet;
 use unification::{memory, unify};
 use words::fields;
 
-// The leftmost open leaf and one, 0 where none is open; the leaves noted, and the steps taken.
+// The leftmost open leaf and one, 0 where none is open, as the work words hold heads; the leaves noted, and the steps taken.
 #[derive(Clone, Copy)]
 pub struct Place {
     pub head: u32,
@@ -66,6 +66,7 @@ fn hang(
 {
     let mut offset: u32 = 1;
     let mut left = count;
+    // No index loop: it ends when so many literals hang, at an offset not known before.
     while left != 0 {
         let word = file[fields::wide(start) + fields::wide(offset)];
         let here = offset;

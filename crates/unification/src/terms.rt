@@ -45,6 +45,7 @@ pub fn after(file: &[u32], work: &[u32], reference: u32) -> u32
 {
     let mut at = reference;
     let mut owed: u32 = 1;
+    // No index loop: it ends when nothing is owed, at a place not known before.
     while owed != 0 {
         owed = owed_after(owed, memory::word_at(file, work, at));
         at += 1;

@@ -96,6 +96,7 @@ fn occurs(file: &[u32], work: &[u32], notes: &mut [u32], variable: u32, referenc
 {
     let mut at = reference;
     let mut owed: u32 = 1;
+    // No index loop: it ends when nothing is owed, at a place not known before.
     while owed != 0 {
         let word = memory::word_at(file, work, at);
         if occurs_at(file, work, notes, variable, at, word) {
