@@ -12,7 +12,6 @@ use borrow.Author.Tests.{eq-eqb, ne_eqb, lt-ltb, le-ltb}
 use lib.Dec.{eqb}
 use lib.ListN.{length, drop, get_or}
 use Rattle.clausetext.specs.declared.kind.Mark.{Mark}
-use Rattle.clausetext.specs.declared.kind.Mark.TheVariants.{Open, Close, Comma, Bar, Tilde, Dot}
 use Rattle.clausetext.specs.declared.token.Lexeme.{Lexeme}
 use Rattle.clausetext.specs.declared.token.Lexeme.TheVariants.{Word, Capital, Sign}
 use Rattle.clausetext.specs.Kinds.{kind_of, sign_kind, letter_kind}
@@ -107,33 +106,6 @@ module _ {stage : ℕ} where
     kept_other e = rw (ne_eqb stage 2 e)
 
 pub ruleset stage_laws = (stage_next, stage_last, kept_this, kept_other)
-
-module _ (stage : ℕ) {m : Mark} {r : ℕ} where
-  pub open_stage : m ≡ Open → r ≡ next_stage stage → r ≡ sign_stage stage m
-  unfolding sign_stage
-  open_stage e q = rw e q
-
-  pub close_stage : m ≡ Close → r ≡ next_stage stage → r ≡ sign_stage stage m
-  unfolding sign_stage
-  close_stage e q = rw e q
-
-  pub comma_stage : m ≡ Comma → r ≡ next_stage stage → r ≡ sign_stage stage m
-  unfolding sign_stage
-  comma_stage e q = rw e q
-
-  pub bar_stage : m ≡ Bar → r ≡ next_stage stage → r ≡ sign_stage stage m
-  unfolding sign_stage
-  bar_stage e q = rw e q
-
-  pub tilde_stage : m ≡ Tilde → r ≡ next_stage stage → r ≡ sign_stage stage m
-  unfolding sign_stage
-  tilde_stage e q = rw e q
-
-pub dot_stage : (stage : ℕ) {m : Mark} → m ≡ Dot → 0 ≡ sign_stage stage m
-unfolding sign_stage
-dot_stage stage e = rw e
-
-pub ruleset sign_stage_laws = (open_stage, close_stage, comma_stage, bar_stage, tilde_stage, dot_stage)
 
 -- a question's role
 module _ (text : List ℕ) {start : ℕ} where
