@@ -45,7 +45,7 @@ pub(crate) fn grown(count: usize, number: usize) -> usize
     count
 }
 
-// Adds to each word of a kind the number of its name.
+// Adds to each word of a kind the number of its name. Apart from tree::number, since what is known is noted and proved otherwise there.
 pub(crate) fn number(
     text: &[u8],
     starts: &[u32],

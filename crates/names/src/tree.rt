@@ -35,7 +35,7 @@ const HEADS: usize = 131072;
 
 const MARKS: usize = 196609;
 
-// The number of a key, sought from the latest of the same earlier stem down.
+// The number of a key, sought from the latest of the same earlier stem down: the keys are linked, so no index counts them.
 #[tactic(auto, using(crate::proofs::Stems::looking_laws))]
 fn find(memory: &[u32], count: usize, key: u32) -> Option<usize>
     requires { Tree memory.now count × (key / 256 ≤ 65536) }
