@@ -16,8 +16,8 @@ fn flag_seen(file: &[u32], question: usize, present: &mut [bool])
     ensures { present.new ≡ seen_flags (table_in file.now) }
 {
     let mut at = 0;
-    for number in 0..present.len() {
-        present[number] = !fields::restricted(file[at]);
+    for seen in present.iter_mut() {
+        *seen = !fields::restricted(file[at]);
         at = dropping::after(file, at);
     }
 }

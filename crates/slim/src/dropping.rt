@@ -47,8 +47,8 @@ fn first(file: &[u32], question: usize, present: &mut [bool])
     ensures { present.new ≡ unrepeated (table_in file.now) }
 {
     let mut at = 0;
-    for number in 0..present.len() {
-        present[number] = !repeats(file, question, number, at);
+    for (number, kept) in present.iter_mut().enumerate() {
+        *kept = !repeats(file, question, number, at);
         at = after(file, at);
     }
 }
@@ -121,16 +121,16 @@ fn sweep(file: &[u32], question: usize, present: &mut [bool], marks: &[bool]) ->
 {
     let mut next = 0;
     let mut dropped = false;
-    for number in 0..present.len() {
+    for kept in present.iter_mut() {
         let at = next;
         next = after(file, at);
-        if !present[number] {
+        if !*kept {
             continue;
         }
         if !lonely(&file[at..next], marks) {
             continue;
         }
-        present[number] = false;
+        *kept = false;
         dropped = true;
     }
     dropped
