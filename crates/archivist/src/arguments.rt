@@ -2,7 +2,6 @@
 use crate::streams;
 use crate::streams::Stream;
 use requests::piece;
-use requests::piece::Number;
 use std::env::FillError;
 use std::io;
 use std::rt::Env;
@@ -51,10 +50,11 @@ pub fn is(rt: &HostRuntime, i: usize, text: &[u8]) -> bool {
     piece::is(part::front(&space, n), 0, text)
 }
 
-pub fn number(rt: &HostRuntime, i: usize) -> Number {
+pub fn number(rt: &HostRuntime, i: usize) -> Option<u32> {
     let mut space = [0u8; 4096];
     let n = argument(rt, i, &mut space);
-    piece::decimal(part::front(&space, n), 0, b'\n')
+    let said = piece::decimal(part::front(&space, n), 0, b'\n')?;
+    Some(said.value)
 }
 
 // The argument after a name; 0 where the name is not among the arguments.
@@ -70,9 +70,9 @@ fn following(rt: &HostRuntime, name: &[u8]) -> usize {
     0
 }
 
-fn value(rt: &HostRuntime, at: usize, otherwise: u32) -> Number {
+fn value(rt: &HostRuntime, at: usize, otherwise: u32) -> Option<u32> {
     if at == 0 {
-        return Number::Value(otherwise, 0);
+        return Some(otherwise);
     }
     number(rt, at)
 }
@@ -128,12 +128,10 @@ pub fn asked(rt: &HostRuntime, files: usize) -> Options {
     if !counted(rt, limit_at, budget_at, proof_at, files) {
         return refused();
     }
-    let limit_said = value(rt, limit_at, 32);
-    let Number::Value(limit, _) = limit_said else {
+    let Some(limit) = value(rt, limit_at, 32) else {
         return refused();
     };
-    let budget_said = value(rt, budget_at, 10_000_000);
-    let Number::Value(budget, _) = budget_said else {
+    let Some(budget) = value(rt, budget_at, 10_000_000) else {
         return refused();
     };
     Options {

@@ -6,7 +6,6 @@ use crate::{arguments, files, telling};
 use assistant::refusal;
 use reports::records::{Fault, Wanted};
 use reports::{records, said};
-use requests::piece::Number;
 use std::io;
 use text::part;
 
@@ -76,12 +75,10 @@ pub fn desk(rt: &HostRuntime) -> io::Result<()> {
     if arguments::argument_count(rt) != 5 {
         return arguments::usage(rt);
     }
-    let first = arguments::number(rt, 3);
-    let Number::Value(day, _) = first else {
+    let Some(day) = arguments::number(rt, 3) else {
         return arguments::usage(rt);
     };
-    let second = arguments::number(rt, 4);
-    let Number::Value(house, _) = second else {
+    let Some(house) = arguments::number(rt, 4) else {
         return arguments::usage(rt);
     };
     with_records(rt, day, house)

@@ -7,7 +7,6 @@ use crate::{arguments, files, streams};
 use assistant::result;
 use naming::{lookup, show};
 use requests::piece;
-use requests::piece::Number;
 use std::io;
 use std::io::IsTerminal;
 use text::part;
@@ -164,23 +163,21 @@ fn behind_line(
     listing: &[u8],
     at: usize,
 ) -> io::Result<usize> {
-    let first = piece::decimal(listing, at, b' ');
-    let Number::Value(number, next) = first else {
+    let Some(number) = piece::decimal(listing, at, b' ') else {
         return Ok(listing.len());
     };
-    let second = piece::decimal(listing, next, b' ');
-    let Number::Value(copies, rest) = second else {
+    let Some(copies) = piece::decimal(listing, number.next, b' ') else {
         return Ok(listing.len());
     };
     let mut out = page();
     let n = result::behind(
         &mut out,
         0,
-        lookup::name(text, part::rest(index, 8192), wide(number)),
-        copies,
+        lookup::name(text, part::rest(index, 8192), wide(number.value)),
+        copies.value,
     );
     write(rt, Stream::Output, &out, n)?;
-    let end = piece::end_of(listing, rest, b'\n');
+    let end = piece::end_of(listing, copies.next, b'\n');
     Ok(after_line(listing, end))
 }
 
@@ -214,10 +211,5 @@ pub fn tell_behind(
         Stream::Output,
         b"Clauses behind it, and how often each was used:\n",
     )?;
-    behind_lines(
-        rt,
-        text,
-        index,
-        part::front(&listing, wide(listed.bytes)),
-    )
+    behind_lines(rt, text, index, part::front(&listing, wide(listed.bytes)))
 }

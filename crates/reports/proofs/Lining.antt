@@ -16,7 +16,7 @@ use Rattle.text.proofs.Putting.{Left, begin, further, finish, then}
 use Rattle.text.proofs.Written.{from_place}
 use Rattle.requests.specs.Pieces.{up_to, decimal_at, same_bytes}
 use Rattle.requests.specs.declared.piece.Number.{Number}
-use Rattle.requests.specs.declared.piece.Number.TheVariants.{Value, Bad}
+use Rattle.std.specs.Prelude.{Option, Some, None}
 use Rattle.requests.proofs.Lists.{front_length, front_take}
 use Rattle.reports.specs.Records.{is_blank, ends_piece, blanks_in, piece_in, piece_start, piece_from, piece_bytes, number_up_to, slot_named, is_empty, number_at, slot_at, said_slot, said_house, said_in, onto, lines_of, words_of, words_said, fault_or, first_fault}
 use Rattle.reports.specs.declared.lines.Piece.{Piece}
@@ -116,19 +116,19 @@ pub bytes_are : (line : List ℕ) (p : Piece) {upto own : List ℕ} → upto ≡
 bytes_are line p eu eo = eo ∙ rw eu
 
 -- a number and a slot
-module _ (own : List ℕ) (most : ℕ) {q : Number} (e : q ≡ decimal_at 32 own 0) where
-  pub number_bad : q ≡ Bad → 0 ≡ number_up_to most own
+module _ (own : List ℕ) (most : ℕ) {q : Option Number} (e : q ≡ decimal_at 32 own 0) where
+  pub number_bad : q ≡ None → 0 ≡ number_up_to most own
   unfolding number_up_to
   number_bad b = rw (sym e ∙ b)
 
-  module _ {n next : ℕ} (v : q ≡ Value n next) where
-    pub number_large : most < n → 0 ≡ number_up_to most own
+  module _ {n : Number} (v : q ≡ Some n) where
+    pub number_large : most < n.value → 0 ≡ number_up_to most own
     unfolding number_up_to
-    number_large h = rw (sym e ∙ v, lt-ltb most n h)
+    number_large h = rw (sym e ∙ v, lt-ltb most n.value h)
 
-    pub number_fits : n ≤ most → n ≡ number_up_to most own
+    pub number_fits : n.value ≤ most → n.value ≡ number_up_to most own
     unfolding number_up_to
-    number_fits h = rw (sym e ∙ v, le-ltb most n h)
+    number_fits h = rw (sym e ∙ v, le-ltb most n.value h)
 
 pub ruleset number_laws = (number_bad, number_large, number_fits)
 

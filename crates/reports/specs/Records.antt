@@ -1,10 +1,9 @@
 -- The desk's records as lines of text: a day 1–366, a house 1–999 and a slot (matinee, evening or either), with blanks between them.
 -- `%` begins a comment; a line without pieces is no record.
-use Rattle.std.specs.Prelude.{Bool, cond, ◌||◌, List, [], ◌∷◌, ◌++◌, ℕ, suc, ◌+◌, eqb, ltb, length, take, drop}
+use Rattle.std.specs.Prelude.{Bool, cond, ◌||◌, List, [], ◌∷◌, ◌++◌, ℕ, suc, ◌+◌, Option, Some, None, eqb, ltb, length, take, drop}
 use Rattle.text.specs.Quoted.{bytes}
 use Rattle.requests.specs.Pieces.{decimal_at, same_bytes}
 use Rattle.requests.specs.declared.piece.Number.{Number}
-use Rattle.requests.specs.declared.piece.Number.TheVariants.{Value, Bad}
 use Rattle.reports.specs.declared.lines.Piece.{Piece}
 use Rattle.reports.specs.declared.records.Wanted.TheVariants.{Nothing, Day, House, Slot, LineEnd}
 use Rattle.reports.specs.declared.records.Said.{Said}
@@ -40,9 +39,9 @@ piece_bytes line p = drop p.start (take p.end line)
 
 -- A LINE
 -- a number in range, else 0
-abbrev pub within : ℕ → Number → ℕ
-within most (Value n next) = cond (ltb most n) 0 n
-within most Bad = 0
+abbrev pub within : ℕ → Option Number → ℕ
+within most (Some n) = cond (ltb most n.value) 0 n.value
+within most None = 0
 
 unfoldable pub number_up_to : ℕ → List ℕ → ℕ
 number_up_to most own = within most (decimal_at 32 own 0)

@@ -5,7 +5,6 @@ ghost use Rattle.reports.specs.Records.{number_up_to, slot_named, said_slot, sai
 
 use crate::lines;
 use requests::piece;
-use requests::piece::Number;
 use text::put;
 
 // What a line was expected to go on with; nothing where it is as it should be.
@@ -37,14 +36,13 @@ pub struct Fault {
 fn number(own: &[u8], most: u32) -> u32
     ensures { result ≡ number_up_to most own.now }
 {
-    let read = piece::decimal(own, 0, b' ');
-    let Number::Value(value, _) = read else {
+    let Some(read) = piece::decimal(own, 0, b' ') else {
         return 0;
     };
-    if most < value {
+    if most < read.value {
         return 0;
     }
-    value
+    read.value
 }
 
 // The slot that is named; else 0.

@@ -1,6 +1,7 @@
 // The verbs that are asked as a check is.
 use crate::report;
 use hukolearu::{Outcome, calls};
+use requests::request::Field;
 use requests::{piece, request};
 use std::io;
 use text::part;
@@ -89,8 +90,13 @@ fn asks_check(line: &[u8], verb: &[u8], values: &mut [usize]) -> bool {
     request::asks(
         line,
         verb,
-        b"nnnww",
-        &[lent::ANY, lent::LONG, lent::LONG, lent::OFFERED, lent::FILE],
+        &[
+            Field::Number(lent::ANY),
+            Field::Number(lent::LONG),
+            Field::Number(lent::LONG),
+            Field::Words(lent::OFFERED),
+            Field::Words(lent::FILE),
+        ],
         values,
     )
 }

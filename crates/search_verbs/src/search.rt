@@ -1,6 +1,7 @@
 // The verbs that are asked as a search is.
 use crate::report;
 use hukolearu::calls;
+use requests::request::Field;
 use requests::{piece, request};
 use results::least;
 use std::io;
@@ -176,14 +177,13 @@ fn asks_search(line: &[u8], verb: &[u8], values: &mut [usize]) -> bool {
     request::asks(
         line,
         verb,
-        b"nnnnnw",
         &[
-            lent::ANY,
-            lent::ANY,
-            lent::LONG,
-            lent::PROOF,
-            lent::LONG,
-            lent::FILE,
+            Field::Number(lent::ANY),
+            Field::Number(lent::ANY),
+            Field::Number(lent::LONG),
+            Field::Number(lent::PROOF),
+            Field::Number(lent::LONG),
+            Field::Words(lent::FILE),
         ],
         values,
     )

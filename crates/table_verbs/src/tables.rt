@@ -1,4 +1,5 @@
 // The verbs of a table.
+use requests::request::Field;
 use requests::{piece, records, request};
 use results::{clause, counts, desk as said, slimmed};
 use std::io;
@@ -130,15 +131,23 @@ fn answer_season(rt: &impl Print, line: &[u8], values: &[usize]) -> io::Result<(
 
 // The verbs of a table.
 pub fn answer_tables(rt: &impl Print, line: &[u8], values: &mut [usize]) -> io::Result<bool> {
-    if request::asks(line, b"lookup", b"nw", &[lent::ANY, lent::FILE], values) {
+    if request::asks(
+        line,
+        b"lookup",
+        &[Field::Number(lent::ANY), Field::Words(lent::FILE)],
+        values,
+    ) {
         answer_lookup(rt, line, values)?;
         return Ok(true);
     }
     if request::asks(
         line,
         b"slim",
-        b"nnw",
-        &[lent::FILE, lent::NUMBERS, lent::FILE],
+        &[
+            Field::Number(lent::FILE),
+            Field::Number(lent::NUMBERS),
+            Field::Words(lent::FILE),
+        ],
         values,
     ) {
         answer_slim(rt, line, values)?;
@@ -147,14 +156,13 @@ pub fn answer_tables(rt: &impl Print, line: &[u8], values: &mut [usize]) -> io::
     if request::asks(
         line,
         b"desk",
-        b"nnnnnr",
         &[
-            lent::ANY,
-            lent::ANY,
-            lent::ANY,
-            lent::ANY,
-            lent::ANY,
-            lent::RECORDS,
+            Field::Number(lent::ANY),
+            Field::Number(lent::ANY),
+            Field::Number(lent::ANY),
+            Field::Number(lent::ANY),
+            Field::Number(lent::ANY),
+            Field::Records(lent::RECORDS),
         ],
         values,
     ) {
@@ -164,14 +172,13 @@ pub fn answer_tables(rt: &impl Print, line: &[u8], values: &mut [usize]) -> io::
     if request::asks(
         line,
         b"season",
-        b"nnnwww",
         &[
-            lent::LONG,
-            lent::PROOF,
-            lent::LONG,
-            lent::ENTRIES,
-            lent::FILE,
-            lent::FILE,
+            Field::Number(lent::LONG),
+            Field::Number(lent::PROOF),
+            Field::Number(lent::LONG),
+            Field::Words(lent::ENTRIES),
+            Field::Words(lent::FILE),
+            Field::Words(lent::FILE),
         ],
         values,
     ) {

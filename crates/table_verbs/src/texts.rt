@@ -1,4 +1,5 @@
 // The verbs of text.
+use requests::request::Field;
 use requests::{bytes, piece, request};
 use results::textual;
 use std::io;
@@ -91,19 +92,34 @@ fn answer_listing(rt: &impl Print, line: &[u8], values: &[usize]) -> io::Result<
 
 // The verbs of text.
 pub fn answer_texts(rt: &impl Print, line: &[u8], values: &mut [usize]) -> io::Result<bool> {
-    if request::asks(line, b"tptp-in", b"nb", &[lent::FILE, lent::TEXT], values) {
+    if request::asks(
+        line,
+        b"tptp-in",
+        &[Field::Number(lent::FILE), Field::Bytes(lent::TEXT)],
+        values,
+    ) {
         answer_text(rt, line, values)?;
         return Ok(true);
     }
-    if request::asks(line, b"tptp-out", b"nw", &[lent::TEXT, lent::FILE], values) {
+    if request::asks(
+        line,
+        b"tptp-out",
+        &[Field::Number(lent::TEXT), Field::Words(lent::FILE)],
+        values,
+    ) {
         answer_written(rt, line, values)?;
         return Ok(true);
     }
     if request::asks(
         line,
         b"listing",
-        b"nnnww",
-        &[lent::ANY, lent::LONG, lent::TEXT, lent::OFFERED, lent::FILE],
+        &[
+            Field::Number(lent::ANY),
+            Field::Number(lent::LONG),
+            Field::Number(lent::TEXT),
+            Field::Words(lent::OFFERED),
+            Field::Words(lent::FILE),
+        ],
         values,
     ) {
         answer_listing(rt, line, values)?;

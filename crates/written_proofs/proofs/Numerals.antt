@@ -1,7 +1,7 @@
 -- Numbers and words written and read again.
 use mathlib.Core.Bool.{Bool, true, false, cond, ◌&&◌}
 use mathlib.Core.List.{List, [], ◌∷◌}
-use mathlib.Core.Option.{some}
+use Rattle.std.specs.Prelude.{Some}
 use mathlib.Core.Path.{◌≡◌, refl, sym, ap, ◌∙◌}
 use Prim.Native.Nat.{ℕ, zero, suc, ◌+◌, ◌*◌, ◌/◌, ◌%◌, ◌^◌, ◌≤◌, ◌<◌}
 use native.Mathlib.Omega.{arith}
@@ -81,7 +81,7 @@ digit_on a b rest e h =
     let d : b % 16 < 16 = omega arith in
     rw (digit_back (b % 16) d, lt-leb 16 (b % 16) d, e, le-ltb 4294967295 b h)
 
-pub hex_value : (w : ℕ) → w < 2 ^ 32 → value_from 16 0 (hex_text w) ≡ some w
+pub hex_value : (w : ℕ) → w < 2 ^ 32 → value_from 16 0 (hex_text w) ≡ Some w
 unfolding digits_of value_from
 hex_value w h =
     digit_on 0 (w / 268435456) (digits_of 16 7 w) (omega arith) (omega arith)
@@ -92,4 +92,4 @@ hex_value w h =
     ∙ digit_on (w / 4096) (w / 256) (digits_of 16 2 w) (omega arith) (omega arith)
     ∙ digit_on (w / 256) (w / 16) (digits_of 16 1 w) (omega arith) (omega arith)
     ∙ digit_on (w / 16) (w / 1) (digits_of 16 0 w) (omega arith) (omega arith)
-    ∙ (let z : w / 1 ≡ w = omega arith in ap (λ (n : ℕ). some n) z)
+    ∙ (let z : w / 1 ≡ w = omega arith in ap (λ (n : ℕ). Some n) z)

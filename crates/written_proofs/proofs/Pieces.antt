@@ -14,7 +14,7 @@ use Rattle.words.specs.Steps.{encoded}
 use Rattle.names.specs.Numbers.{Name}
 use Rattle.requests.specs.Pieces.{same_bytes, number_of, number_at, word_of, word_at, decimal_at, next_at, up_to, piece_at}
 use Rattle.requests.specs.declared.piece.Number.{Number}
-use Rattle.requests.specs.declared.piece.Number.TheVariants.{Value, Bad}
+use Rattle.std.specs.Prelude.{Option, Some, None}
 use Rattle.requests.proofs.Numbers.{found_none, found_value}
 use Rattle.text.specs.Put.{Put}
 use Rattle.text.proofs.Putting.{Left, begin, further, finish}
@@ -57,12 +57,12 @@ module _ (said : List ℕ) (from : ℕ) {end : ℕ} (g : Ending said from end) w
 pub ruleset end_laws = (end_begin, end_over, end_blank, end_on)
 
 -- what pieces say
-module _ (own : List ℕ) {q : Number} where
-  pub number_none : q ≡ decimal_at 32 own 0 → q ≡ Bad → 512 ≡ number_said own
+module _ (own : List ℕ) {q : Option Number} where
+  pub number_none : q ≡ decimal_at 32 own 0 → q ≡ None → 512 ≡ number_said own
   unfolding number_at number_said
   number_none e b = rw (found_none _ (number_of 10 (up_to 32 own)) (sym e ∙ b))
 
-  pub number_some : q ≡ decimal_at 32 own 0 → {v n : ℕ} → q ≡ Value v n → v ≡ number_said own
+  pub number_some : q ≡ decimal_at 32 own 0 → {n : Number} → q ≡ Some n → n.value ≡ number_said own
   unfolding number_at number_said
   number_some e b = rw (found_value _ (number_of 10 (up_to 32 own)) (sym e ∙ b))
 
@@ -109,12 +109,12 @@ module _ (own : List ℕ) {r : Bool} (er : r ≡ same_bytes own (114 ∷ 101 ∷
     unfolding verb_turn
     verb_extend t = rw (← er, f, ← ex, t)
 
-    module _ (g : x ≡ false) {q : Number} (e : q ≡ word_at own 0) where
-      pub verb_wrong : q ≡ Bad → Wrong ≡ verb_turn own
+    module _ (g : x ≡ false) {q : Option Number} (e : q ≡ word_at own 0) where
+      pub verb_wrong : q ≡ None → Wrong ≡ verb_turn own
       unfolding verb_turn word_at
       verb_wrong b = rw (← er, f, ← ex, g, found_none (next_at own 0) (word_of (piece_at own 0)) (sym e ∙ b))
 
-      pub verb_word : {v n : ℕ} → q ≡ Value v n → Makes v ≡ verb_turn own
+      pub verb_word : {n : Number} → q ≡ Some n → Makes n.value ≡ verb_turn own
       unfolding verb_turn word_at
       verb_word b = rw (← er, f, ← ex, g, found_value (next_at own 0) (word_of (piece_at own 0)) (sym e ∙ b))
 

@@ -1,7 +1,7 @@
 -- What is written of a list of words is read as that list.
 use mathlib.Core.Bool.{Bool, true, false, cond}
 use mathlib.Core.List.{List, [], ◌∷◌, ◌++◌, append_assoc}
-use mathlib.Core.Option.{some}
+use Rattle.std.specs.Prelude.{Some}
 use mathlib.Core.Path.{◌≡◌, refl, sym, ap, ◌∙◌}
 use Prim.Native.Nat.{ℕ, zero, suc, ◌+◌, ◌/◌, ◌%◌, ◌<◌, ◌^◌}
 use native.Mathlib.Omega.{arith}
@@ -125,7 +125,7 @@ hex_long : (w : ℕ) → length (hex_text w) ≡ 8
 unfolding digits_of
 hex_long w = refl
 
-hex_word : (w : ℕ) → w < 2 ^ 32 → word_of (hex_text w) ≡ some w
+hex_word : (w : ℕ) → w < 2 ^ 32 → word_of (hex_text w) ≡ Some w
 unfolding word_of number_of digits_of
 hex_word w h = hex_value w h
 

@@ -1,7 +1,6 @@
 -- A proof read from text: pieces separated by blanks. A piece that is `reduce` awaits a height, `extend` a clause and then a literal;
 -- another is a step's word in one to eight hexadecimal digits. The first piece that is not what is awaited is wrong.
-use Rattle.std.specs.Prelude.{Bool, true, false, cond, List, [], ◌∷◌, ◌≡◌, ℕ, suc, eqb, leb, ltb, length}
-use Rattle.std.proofs.Math.Option.{Option, none, some}
+use Rattle.std.specs.Prelude.{Bool, true, false, cond, List, [], ◌∷◌, ◌≡◌, ℕ, suc, Option, Some, None, eqb, leb, ltb, length}
 use Rattle.words.specs.declared.Step.{Step}
 use Rattle.words.specs.declared.Step.TheVariants.{Reduction, Extension}
 use Rattle.words.specs.Steps.{encoded}
@@ -39,8 +38,8 @@ pieces_from at inside (c ∷ cs) =
 
 -- a number in decimal digits; 512, which is no height, clause or literal, where a piece says none
 abbrev pub or_none : Option ℕ → ℕ
-or_none none = 512
-or_none (some n) = n
+or_none None = 512
+or_none (Some n) = n
 
 unfoldable pub number_said : List ℕ → ℕ
 number_said p = or_none (number_of 10 (upToSpace p))
@@ -54,8 +53,8 @@ unfoldable pub step_made : Step → Turn
 step_made s = cond (eqb (encoded s) 0xC0000000) Wrong (Makes (encoded s))
 
 abbrev pub word_made : Option ℕ → Turn
-word_made none = Wrong
-word_made (some w) = Makes w
+word_made None = Wrong
+word_made (Some w) = Makes w
 
 unfoldable pub clause_made : ℕ → Turn
 clause_made i = cond (ltb i 512) (Awaits (Literal i)) Wrong

@@ -5,7 +5,7 @@ ghost use Rattle.written_proofs.specs.Steps.{names_of};
 ghost use Rattle.written_proofs.specs.Reading.{piece, number_said, clause_said, step_made, clause_made, verb_turn, turn, complete, read_proof, Told};
 
 use crate::clause;
-use requests::piece::{Number, decimal, same, word};
+use requests::piece::{decimal, same, word};
 use text::{part, put};
 use words::Step;
 use words::steps::encode;
@@ -54,11 +54,10 @@ fn piece_end(said: &[u8], from: usize) -> usize
 fn number(own: &[u8]) -> u32
     ensures { result ≡ number_said own.now }
 {
-    let read = decimal(own, 0, b' ');
-    let Number::Value(value, _) = read else {
+    let Some(read) = decimal(own, 0, b' ') else {
         return clause::NONE;
     };
-    value
+    read.value
 }
 
 // The clause that a piece tells.
@@ -92,11 +91,10 @@ fn verb(own: &[u8]) -> Turn
     if same(own, b"extend") {
         return Turn::Awaits(Awaited::Clause);
     }
-    let read = word(own, 0);
-    let Number::Value(value, _) = read else {
+    let Some(read) = word(own, 0) else {
         return Turn::Wrong;
     };
-    Turn::Makes(value)
+    Turn::Makes(read.value)
 }
 
 fn named(clause: u32) -> Turn
