@@ -3,7 +3,6 @@ ghost use Rattle.std.specs.Prelude.{◌≡◌};
 ghost use Rattle.hukolearu.specs.Telling.{Passed};
 ghost use Rattle.bound_literals.specs.Held.{Replayed};
 
-use engine::check::Judged;
 use engine::{Conditions, check};
 use tableaux::tableau;
 
@@ -22,7 +21,7 @@ pub(crate) fn replay(
     let mut place = tableau::begin(file, work, question);
     for step in steps {
         let judged = check::step_taken(file, work, true, question, conditions, place, *step);
-        let Judged::On(next) = judged else {
+        let Ok(next) = judged else {
             return false;
         };
         place = next;

@@ -23,12 +23,12 @@ use Rattle.engine.specs.declared.Conditions.{Conditions}
 use Rattle.answers.specs.Writing.{words_of, disjuncts_kept, answer_held, Counted, Answered}
 use Rattle.answers.specs.Repeats.{disjuncts_held, Chose}
 use Rattle.engine.specs.Searching.{Ends}
-use Rattle.engine.specs.Checking.{RefusedAs, Decided}
+use Rattle.engine.specs.Checking.{status_for, RefusedAs, Decided}
 use Rattle.hukolearu.specs.Enums.{by_ending, by_verdict, by_room}
 use Rattle.hukolearu.specs.Telling.{Told, Passed, Answerable, Fits, Writable, held}
 use Rattle.hukolearu.specs.declared.Outcome.{Outcome}
-use Rattle.engine.specs.declared.check.Verdict.{Verdict}
-use Rattle.engine.specs.declared.check.Verdict.TheVariants.{Accepted, Refused}
+use Rattle.engine.specs.declared.check.Refusal as engine
+use Rattle.engine.specs.declared.check.Refused.{Refused}
 use Rattle.engine.specs.declared.search.Searched.{Searched}
 use Rattle.engine.specs.declared.search.Ending.{Ending}
 use Rattle.engine.specs.declared.search.Ending.TheVariants.{Found as AFound, Nothing, Out}
@@ -141,35 +141,35 @@ pub ruleset search_laws =
     (nothing_left, found_left, found_few, found_room, found_answerable, refuses, tells, nothing_given, out_given, found_given_lem)
 
 -- the checker: refused at a step, or accepted
-stopped_given : (f : List ℕ) (conditions : Conditions) (offered : List ℕ) {status place : ℕ} (room : ℕ) → RefusedAs f conditions offered status place
-    → check_given (table_in f) (length offered) room (check (setting_for f conditions) (read_steps (profile_of conditions.restarts) offered)) ≡ refused status place 0
+stopped_given : (f : List ℕ) (conditions : Conditions) (offered : List ℕ) {why : engine.Refusal} {place : ℕ} (room : ℕ) → RefusedAs f conditions offered why place
+    → check_given (table_in f) (length offered) room (check (setting_for f conditions) (read_steps (profile_of conditions.restarts) offered)) ≡ refused (status_for why) place 0
 unfolding check_given
-stopped_given f conditions offered room x = rw (x.stops, x.number)
+stopped_given f conditions offered room x = rw x.stops
 
-module _ (f m : List ℕ) (question : ℕ) (conditions : Conditions) (offered : List ℕ) {v : Verdict} (h : Decided f m question conditions offered v) where
-  as-decided : {w : Verdict} → v ≡ w → Decided f m question conditions offered w
-  as-decided e = subst (λ (x : Verdict). Decided f m question conditions offered x) e h
+module _ (f m : List ℕ) (question : ℕ) (conditions : Conditions) (offered : List ℕ) {v : Result ℕ Refused} (h : Decided f m question conditions offered v) where
+  as-decided : {w : Result ℕ Refused} → v ≡ w → Decided f m question conditions offered w
+  as-decided e = subst (λ (x : Result ℕ Refused). Decided f m question conditions offered x) e h
 
-  pub accepted_answerable : {m₀ : List ℕ} {steps : ℕ} → Passed f m₀ question conditions.bound → v ≡ Accepted steps → Answerable f m
+  pub accepted_answerable : {m₀ : List ℕ} {steps : ℕ} → Passed f m₀ question conditions.bound → v ≡ Ok steps → Answerable f m
   accepted_answerable p e = answerable f p.judged p.asked (as-decided e).ended
 
-  pub refused_given : {status place : ℕ} (room : ℕ) → v ≡ Refused status place
-      → check_given (table_in f) (length offered) room (check (setting_for f conditions) (read_steps (profile_of conditions.restarts) offered)) ≡ refused status place 0
-  refused_given room e = stopped_given f conditions offered room (as-decided e)
+  pub refused_given : {refusal : Refused} {status : ℕ} (room : ℕ) → v ≡ Err refusal → status ≡ status_for refusal.why
+      → check_given (table_in f) (length offered) room (check (setting_for f conditions) (read_steps (profile_of conditions.restarts) offered)) ≡ refused status refusal.place 0
+  refused_given room e s = rw s (stopped_given f conditions offered room (as-decided e))
 
-  pub accepted_given : {m₀ : List ℕ} {steps : ℕ} (room : ℕ) → Passed f m₀ question conditions.bound → v ≡ Accepted steps
+  pub accepted_given : {m₀ : List ℕ} {steps : ℕ} (room : ℕ) → Passed f m₀ question conditions.bound → v ≡ Ok steps
       → check_given (table_in f) (length offered) room (check (setting_for f conditions) (read_steps (profile_of conditions.restarts) offered)) ≡ held f m question steps [] 0 room
   unfolding check_given
   accepted_given {steps = steps} room p e =
       let x = as-decided e in
       rw (x.passes, ← x.count) (held_answered f p.judged p.asked x.ended steps [] 0 room)
 
-pub check_by_verdict : (f m : List ℕ) (question : ℕ) (conditions : Conditions) (offered : List ℕ) (v : Verdict) → Decided f m question conditions offered v
+pub check_by_verdict : (f m : List ℕ) (question : ℕ) (conditions : Conditions) (offered : List ℕ) (v : Result ℕ Refused) → Decided f m question conditions offered v
     → {m₀ : List ℕ} (room : ℕ) → Passed f m₀ question conditions.bound
     → check_given (table_in f) (length offered) room (check (setting_for f conditions) (read_steps (profile_of conditions.restarts) offered))
     ≡ by_verdict v (λ (steps : ℕ). held f m question steps [] 0 room)
-check_by_verdict f m question conditions offered (Accepted steps) h room p = accepted_given f m question conditions offered h room p refl
-check_by_verdict f m question conditions offered (Refused status place) h room p = refused_given f m question conditions offered h room refl
+check_by_verdict f m question conditions offered (Ok steps) h room p = accepted_given f m question conditions offered h room p refl
+check_by_verdict f m question conditions offered (Err refusal) h room p = refused_given f m question conditions offered h room refl refl
 
 pub ruleset check_laws = (accepted_answerable, refuses, tells, refused_given, accepted_given)
 

@@ -14,7 +14,6 @@ ghost use Rattle.hukolearu.specs.Telling.{Told, Passed, Answerable, Fits, Writab
 use crate::door::Inputs;
 use crate::{Outcome, door, status};
 use answers::{answer, once};
-use engine::check::Verdict;
 use engine::search::Ending;
 use engine::{Conditions, check, search};
 use unification::memory;
@@ -51,10 +50,7 @@ pub fn refused(status: u32, place: u32, tries: u32) -> Outcome
 fn room_of(words: usize) -> usize
     ensures { result ≡ room_of words }
 {
-    if words < 4294967295 {
-        return words;
-    }
-    4294967295
+    words.min(4294967295)
 }
 
 // Which copies of the question the answer keeps, and whether it fits.
@@ -245,10 +241,9 @@ pub fn checked(
     requires { Passed file.now work.old question conditions.bound }
     ensures { Told (check_given (table_in file.now) (length offered.now) (length answer.old) (check (setting_for file.now conditions) (read_steps (profile_of conditions.restarts) offered.now))) result [] [] answer.old answer.new }
 {
-    let verdict = check::run(file, work, question, conditions, offered);
-    match verdict {
-        Verdict::Refused(status, place) => refused(status, place, 0),
-        Verdict::Accepted(steps) => accepted(file, question, steps, answer, work),
+    match check::run(file, work, question, conditions, offered) {
+        Err(refusal) => refused(check::status(refusal.why), refusal.place, 0),
+        Ok(steps) => accepted(file, question, steps, answer, work),
     }
 }
 
