@@ -49,7 +49,7 @@ pub fn wrong(
     ensures { Put out.old from (unreadable_text name.now said.now at awaited) out.new result }
 {
     let before = part::front(said, at);
-    let rest = place::after(said, at);
+    let rest = part::rest(said, at);
     let p = place::locate(before);
     let column = p.column;
     let a = head(name, p, out, from);
