@@ -22,7 +22,7 @@ use Rattle.names.specs.Noting.{name_at, names_at, uses_of, numbered, Numbering}
 use Rattle.names.proofs.Same.{no_name}
 use Rattle.names.proofs.Notes.{number_within, noted_known, noted_new}
 use Rattle.naming.specs.Index.{IsNamed}
-use Rattle.naming.proofs.Lookups.{named_at, none_named, none_stands}
+use Rattle.naming.proofs.Lookups.{named_at, none_named, none_stands, none_is_named}
 use Rattle.tptp.specs.Said.{variable_uses}
 use Rattle.tptp.specs.Sketch.{Item}
 use Rattle.tptp.specs.Shapes.{sort_kind}
@@ -31,6 +31,7 @@ use Rattle.tptp.specs.Body.{ahead, part, Held}
 use Rattle.tptp.proofs.Items.{names_of_kind, literals_variables}
 use Rattle.variable_names.specs.Named.{literals_at, few_named, variable_name, IsVariable}
 use Rattle.variable_names.specs.Finding.{sorts, place_of, own_kinds, first_of, Among, IsSaid}
+use Rattle.variable_names.proofs.Walks.{kinds_long}
 use Rattle.variable_names.proofs.Clauses.{own_part}
 
 -- names are known for good
@@ -118,7 +119,13 @@ module _ (text : Bor (List ℕ)) (marks places : List ℕ) (wanted : ℕ) where
           is = is;
         }
 
-pub ruleset among_laws = (among_late, among_over, among_found)
+    pub among_nowhere : many ≤ 16 → (own : List ℕ) → length marks ≡ length own → length places ≡ length own → wanted < 16
+        → length words' ≤ first_of wanted words' → (ptr : ℕ × ℕ) → Among text marks places wanted (record { ref_ptr = ptr; now = [] })
+    among_nowhere h own a b small e ptr =
+        let all : length places ≤ first_of wanted words' = omega (arith, n.long, ap (λ (l : List ℕ). length l) k, kinds_long marks, a, b, e) in
+        among_found h own a b small refl (none_is_named text places all ptr)
+
+pub ruleset among_laws = (among_late, among_over, among_found, among_nowhere)
 
 -- the uses of variables in a clause's items
 kind_told : (s : ℕ) → eqb (kind_of (cond (eqb s 0) 0 1073741824)) 0 ≡ eqb (sort_kind s) 0
