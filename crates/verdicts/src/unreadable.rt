@@ -51,8 +51,7 @@ pub fn wrong(
     let before = part::front(said, at);
     let rest = part::rest(said, at);
     let p = place::locate(before);
-    let column = p.column;
     let a = head(name, p, out, from);
-    let b = excerpt::excerpt(out, a, before, rest, column);
+    let b = excerpt::excerpt(out, a, before, rest, p.column);
     expected(awaited, out, b)
 }
