@@ -61,6 +61,7 @@ fn copy_clauses(file: &[u32], question: usize, present: &[bool], slimmer: &mut [
 }
 
 // Writes the numbers of the flags that are set, and the number after the last flag, which is the question's.
+#[tactic(auto, using(crate::proofs::Copying::number_laws))]
 pub(crate) fn number(present: &[bool], numbers: &mut [u32])
     requires present_len_bound { length present.now ≤ 512 }
     requires present_in_bounds { length (kept_numbers present.now) + 1 ≤ length numbers.old }
@@ -78,6 +79,7 @@ pub(crate) fn number(present: &[bool], numbers: &mut [u32])
 }
 
 // The slimmer file: the clauses that are kept, the question behind them, and the trailer.
+#[tactic(auto, using(crate::proofs::Telling::write_laws))]
 pub fn write(file: &[u32], question: usize, present: &[bool], slimmer: &mut [u32], size: Size)
     requires ready { Ready file.now question × (length present.now ≡ length (table_in file.now).clauses) }
     requires sized { Sized (remaining (table_in file.now) present.now) size }

@@ -10,23 +10,20 @@ loop-number-init c = search all
 
 pub repeats-requires : goal.repeats-requires
 repeats-requires c =
-    let h : c.loop-number.at < c.args.question = walk_before c.args.file.now c.args.question c.requires.0 c.loop-number.number c.loop-number.at c.loop-number.invariant.passed (omega arith) in
+    let h : c.loop-number.at < c.args.asked.question = walk_before c.args.asked.file.now c.args.asked.question c.args.asked.ready c.loop-number.number c.loop-number.at c.loop-number.invariant.passed (omega arith) in
     search all
 
-pub after-at-requires-clause-at_in_bounds : goal.after-at-requires-clause-at_in_bounds
-after-at-requires-clause-at_in_bounds c =
-    let h : c.loop-number.at < c.args.question = walk_before c.args.file.now c.args.question c.requires.0 c.loop-number.number c.loop-number.at c.loop-number.invariant.passed (omega arith) in
+pub after-at-requires : goal.after-at-requires
+after-at-requires c =
+    let h : c.loop-number.at < c.args.asked.question = walk_before c.args.asked.file.now c.args.asked.question c.args.asked.ready c.loop-number.number c.loop-number.at c.loop-number.invariant.passed (omega arith) in
     search all
-
-pub after-at-requires-clause-file_len_bound : goal.after-at-requires-clause-file_len_bound
-after-at-requires-clause-file_len_bound c = search all
 
 pub loop-number-preserved : goal.loop-number-preserved
 loop-number-preserved c =
-    let h : c.loop-number.at < c.args.question = walk_before c.args.file.now c.args.question c.requires.0 c.loop-number.number c.loop-number.at c.loop-number.invariant.passed (omega arith) in
+    let h : c.loop-number.at < c.args.asked.question = walk_before c.args.asked.file.now c.args.asked.question c.args.asked.ready c.loop-number.number c.loop-number.at c.loop-number.invariant.passed (omega arith) in
     search all
 
 pub returns : goal.returns
 returns c =
-    let h : c.args.question ≤ c.loop-number.at = walk_ended c.args.file.now c.args.question c.requires.0 c.loop-number.number c.loop-number.at c.loop-number.invariant.passed (omega arith) in
+    let h : c.args.asked.question ≤ c.loop-number.at = walk_ended c.args.asked.file.now c.args.asked.question c.args.asked.ready c.loop-number.number c.loop-number.at c.loop-number.invariant.passed (omega arith) in
     search all

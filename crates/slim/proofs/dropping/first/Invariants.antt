@@ -3,4 +3,4 @@ use Rattle.slim.proofs.Repeating.{First}
 use Rattle.slim.proofs.dropping.first.Given as goal
 
 abbrev pub invariant-loop-number : goal.invariant-loop-number
-invariant-loop-number l = First (table_in l.file) l.fn.present l.number l.at l.present
+invariant-loop-number l = First (table_in l.asked.file.now) l.fn.present l.number l.at l.present

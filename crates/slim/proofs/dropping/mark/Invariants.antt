@@ -3,4 +3,4 @@ use Rattle.slim.proofs.Sweeping.{Shown}
 use Rattle.slim.proofs.dropping.mark.Given as goal
 
 abbrev pub invariant-loop-still : goal.invariant-loop-still
-invariant-loop-still l = Shown (table_in l.file) l.present l.still-index l.next l.marks
+invariant-loop-still l = Shown (table_in l.asked.file.now) l.present l.still-index l.next l.marks

@@ -2,13 +2,8 @@ use Rattle.std.proofs.Common.{rules}
 use Rattle.slim.proofs.Marking.{look_laws}
 use Rattle.slim.proofs.dropping.mark_words.Goals as goal
 
-ruleset all = (rules, look_laws)
-
-pub loop-w-init : goal.loop-w-init
-loop-w-init c = search all
-
 pub loop-w-preserved-then-kind-ne2 : goal.loop-w-preserved-then-kind-ne2
-loop-w-preserved-then-kind-ne2 c = search all
+loop-w-preserved-then-kind-ne2 c = search (rules, look_laws)
 
 pub loop-w-preserved : goal.loop-w-preserved
-loop-w-preserved c = search all
+loop-w-preserved c = search (rules, look_laws)

@@ -3,4 +3,4 @@ use Rattle.slim.proofs.Repeating.{Differs}
 use Rattle.slim.proofs.dropping.repeats.Given as goal
 
 abbrev pub invariant-loop : goal.invariant-loop
-invariant-loop l = Differs (table_in l.file) l.number l.counter l.next
+invariant-loop l = Differs (table_in l.asked.file.now) l.number l.counter l.next

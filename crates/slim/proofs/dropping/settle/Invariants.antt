@@ -4,4 +4,4 @@ use Rattle.slim.proofs.Settling.{Settling}
 use Rattle.slim.proofs.dropping.settle.Given as goal
 
 abbrev pub invariant-loop : goal.invariant-loop
-invariant-loop l = Settling (table_in l.file) (length l.fn.present - l.counter) l.present
+invariant-loop l = Settling (table_in l.asked.file.now) (length l.fn.present - l.counter) l.present
