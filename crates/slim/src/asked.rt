@@ -1,9 +1,7 @@
-// An accepted file with its question.
+// An accepted file with its question, which the functions that go through its clauses pass on together.
 ghost use Rattle.std.specs.Prelude.{◌≡◌, ◌+◌, ◌<◌, length, get_or};
 ghost use Rattle.words.specs.Fields.{following_of};
 ghost use Rattle.slim.specs.Walking.{Ready, ready_once};
-
-use words::fields;
 
 // The words of an accepted file, and where its question begins.
 #[derive(Clone, Copy, Drop)]

@@ -83,7 +83,7 @@ fn mark_words(words: &[u32], marks: &mut [bool])
 
 // Marks the kinds of literals that the clauses still present have, the question among them.
 fn mark(asked: Asked, present: &[bool], marks: &mut [bool])
-    requires ready { length present.now ≡ length (table_in asked.file.now).clauses }
+    requires present_len { length present.now ≡ length (table_in asked.file.now).clauses }
     requires marks_value { marks.old ≡ replicate 65536 false }
     ensures { Marks (body_words (remaining (table_in asked.entry.file.now) present.now)) marks.new }
 {
@@ -119,7 +119,7 @@ fn lonely(words: &[u32], marks: &[bool]) -> bool
 
 // Drops every dead clause; whether there was one.
 fn sweep(asked: Asked, present: &mut [bool], marks: &[bool]) -> bool
-    requires ready { length present.old ≡ length (table_in asked.file.now).clauses }
+    requires present_len { length present.old ≡ length (table_in asked.file.now).clauses }
     requires marks { Marks (body_words (remaining (table_in asked.file.now) present.old)) marks.now }
     ensures { Swept (table_in asked.entry.file.now) present.old present.new result }
 {
@@ -150,6 +150,7 @@ fn round(asked: Asked, present: &mut [bool]) -> bool
 }
 
 // Repeats are dropped, then dead clauses, until a round drops none.
+#[tactic(auto, using(crate::proofs::Settling::settle_laws))]
 pub(crate) fn settle(asked: Asked, present: &mut [bool])
     requires { length present.old ≡ length (table_in asked.file.now).clauses }
     ensures { present.new ≡ kept_flags (table_in asked.entry.file.now) }

@@ -17,6 +17,7 @@ pub struct Size {
     pub clauses: usize,
 }
 
+#[tactic(auto, using(crate::proofs::Walks::walk_before, crate::proofs::Walks::walk_ended, crate::proofs::Copying::count_laws))]
 pub fn measure(file: &[u32], question: usize, present: &[bool]) -> Size
     requires { Ready file.now question × (length present.now ≡ length (table_in file.now).clauses) }
     ensures { Sized (remaining (table_in file.now) present.now) result }

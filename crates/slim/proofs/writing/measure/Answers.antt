@@ -5,17 +5,6 @@ use Rattle.slim.proofs.writing.measure.Goals as goal
 
 ruleset all = (rules, count_laws)
 
-pub loop-kept-init : goal.loop-kept-init
-loop-kept-init c = search all
-
-pub after-next-requires-clause-at_in_bounds : goal.after-next-requires-clause-at_in_bounds
-after-next-requires-clause-at_in_bounds c =
-    let h : c.loop-kept.next < c.args.question = walk_before c.args.file.now c.args.question c.requires.0 c.loop-kept.kept-index c.loop-kept.next c.loop-kept.invariant.passed (omega arith) in
-    search all
-
-pub after-next-requires-clause-file_len_bound : goal.after-next-requires-clause-file_len_bound
-after-next-requires-clause-file_len_bound c = search all
-
 pub loop-kept-preserved-then-not-kept : goal.loop-kept-preserved-then-not-kept
 loop-kept-preserved-then-not-kept c =
     let h : c.loop-kept.next < c.args.question = walk_before c.args.file.now c.args.question c.requires.0 c.loop-kept.kept-index c.loop-kept.next c.loop-kept.invariant.passed (omega arith) in
@@ -25,12 +14,6 @@ pub loop-kept-preserved : goal.loop-kept-preserved
 loop-kept-preserved c =
     let h : c.loop-kept.next < c.args.question = walk_before c.args.file.now c.args.question c.requires.0 c.loop-kept.kept-index c.loop-kept.next c.loop-kept.invariant.passed (omega arith) in
     search all
-
-pub after-end-requires-clause-at_in_bounds : goal.after-end-requires-clause-at_in_bounds
-after-end-requires-clause-at_in_bounds c = search all
-
-pub after-end-requires-clause-file_len_bound : goal.after-end-requires-clause-file_len_bound
-after-end-requires-clause-file_len_bound c = search all
 
 pub overflow_add-result : goal.overflow_add-result
 overflow_add-result c =
