@@ -18,6 +18,7 @@ fn start_of(body: &[u32], number: usize) -> usize
 {
     let mut at = 0;
     let mut left = number;
+    // No index: whole clauses are passed.
     while left > 0 {
         at += fields::wide(fields::following(body[at])) + 1;
         left -= 1;
@@ -32,6 +33,7 @@ fn offset_of(file: &[u32], start: usize, literal: u32) -> u32
 {
     let mut offset: u32 = 1;
     let mut left = literal;
+    // No index that a range bounds: the literal is met before the clause ends.
     loop {
         let here = offset;
         let kind = fields::kind(file[start + fields::wide(here)]);
