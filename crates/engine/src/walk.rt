@@ -12,6 +12,7 @@ use index::entries::Scan;
 use words::fields;
 
 // Where the clause of a number begins.
+#[tactic(auto, using(crate::proofs::Checker::Walks::start_laws))]
 fn start_of(body: &[u32], number: usize) -> usize
     requires { (body_fault 0 0 body.now ≡ none) × (number < length (starts 0 0 body.now)) }
     ensures { BeginsAt body.now number result }
@@ -27,6 +28,7 @@ fn start_of(body: &[u32], number: usize) -> usize
 }
 
 // How far the literal of a number stands behind its clause word.
+#[tactic(auto, using(crate::proofs::Checker::Walks::number_laws))]
 fn offset_of(file: &[u32], start: usize, literal: u32) -> u32
     requires { literal < length (offsets_at file.now start) }
     ensures { get_elem? (offsets_at file.now start) literal ≡ some result }
@@ -49,6 +51,7 @@ fn offset_of(file: &[u32], start: usize, literal: u32) -> u32
 }
 
 // The literal of a number in the clause of a number.
+#[tactic(auto, using(crate::proofs::Checker::Walks::walk_laws))]
 pub fn entry(file: &[u32], clause: u32, literal: u32) -> Option<Scan>
     requires { ((judge file.now).status ≡ 0) × (clause < 512) }
     ensures { Located file.now clause literal result }
