@@ -61,7 +61,7 @@ fn said_before(file: &[u32], work: &mut [u32], copy: u32) -> bool
     false
 }
 
-// 1 where a copy is kept: a copy of the question that says what no kept one before it says.
+// 1 where a copy is kept: a copy of the question that says what no kept one before it says. A number, since it goes into a work word.
 fn weigh(file: &[u32], work: &mut [u32], question: u32, copy: u32) -> u32
     requires { Next file.now work.old question copy }
     ensures { Weighed file.now work.old work.new question copy result }

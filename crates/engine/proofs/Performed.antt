@@ -3,7 +3,7 @@ use mathlib.Core.Path.{◌≡◌, refl, sym, ap, ◌∙◌}
 use mathlib.Core.Bool.{true, cond, not}
 use mathlib.Core.List.{List, [], ◌∷◌, ◌++◌}
 use mathlib.Core.Option.{none, some}
-use Prim.Native.Nat.{ℕ, zero, suc, ◌+◌, ◌*◌, ◌-◌, ◌/◌, ◌%◌, ◌^◌, ◌≤◌, ◌<◌}
+use Prim.Native.Nat.{ℕ, suc, ◌+◌, ◌*◌, ◌-◌, ◌/◌, ◌%◌, ◌^◌, ◌≤◌, ◌<◌}
 use native.Mathlib.Numerals.{add-one}
 use native.Mathlib.Omega.{arith}
 use borrow.Author.Tests.{eq-eqb}
@@ -19,7 +19,7 @@ use Rattle.table.specs.Decode.{clause_of}
 use Rattle.rules.specs.Setting.{Setting}
 use Rattle.rules.specs.Substitution.{Variable}
 use Rattle.rules.specs.Tableau.{Leaf, Tableau, atom, fits, ancestor, closing, copy_of, hang, questions_with, after_reduction, after_restart, fresh, stepped}
-use Rattle.rules.specs.Machinery.Unify.{Unified, made, unify}
+use Rattle.rules.specs.Machinery.Unify.{Unified, unify}
 use Rattle.rules.specs.Machinery.Play.{Play, bound_by, newest, closes_pair, performed, perform}
 use Rattle.rules.proofs.Steps.{reduces, extends, restarts, MayExtend, MayRestart, done, after_entry}
 use Rattle.unification.specs.State.{start_at, copies_of, next_at, own_words, ClauseAt, words_at, literal_at_reference, bindings_in}

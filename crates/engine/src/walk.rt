@@ -12,12 +12,14 @@ use index::entries::Scan;
 use words::fields;
 
 // Where the clause of a number begins.
+#[tactic(auto, using(crate::proofs::Checker::Walks::start_laws))]
 fn start_of(body: &[u32], number: usize) -> usize
     requires { (body_fault 0 0 body.now ≡ none) × (number < length (starts 0 0 body.now)) }
     ensures { BeginsAt body.now number result }
 {
     let mut at = 0;
     let mut left = number;
+    // No index: whole clauses are passed.
     while left > 0 {
         at += fields::wide(fields::following(body[at])) + 1;
         left -= 1;
@@ -26,12 +28,14 @@ fn start_of(body: &[u32], number: usize) -> usize
 }
 
 // How far the literal of a number stands behind its clause word.
+#[tactic(auto, using(crate::proofs::Checker::Walks::number_laws))]
 fn offset_of(file: &[u32], start: usize, literal: u32) -> u32
     requires { literal < length (offsets_at file.now start) }
     ensures { get_elem? (offsets_at file.now start) literal ≡ some result }
 {
     let mut offset: u32 = 1;
     let mut left = literal;
+    // No index that a range bounds: the literal is met before the clause ends.
     loop {
         let here = offset;
         let kind = fields::kind(file[start + fields::wide(here)]);
@@ -47,6 +51,7 @@ fn offset_of(file: &[u32], start: usize, literal: u32) -> u32
 }
 
 // The literal of a number in the clause of a number.
+#[tactic(auto, using(crate::proofs::Checker::Walks::walk_laws))]
 pub fn entry(file: &[u32], clause: u32, literal: u32) -> Option<Scan>
     requires { ((judge file.now).status ≡ 0) × (clause < 512) }
     ensures { Located file.now clause literal result }

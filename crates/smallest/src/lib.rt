@@ -21,7 +21,7 @@ pub struct Least {
     pub outcome: Outcome,
 }
 
-// The bound of a search is told unless it ran out.
+// The bound of a search is told unless it ran out; else 0, as C gets it.
 fn told(bound: u32, status: u32) -> u32
     ensures { result ≡ ended bound status }
 {

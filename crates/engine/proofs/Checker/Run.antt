@@ -1,7 +1,7 @@
 -- The checker's way through the offered steps: where it begins, how it goes on, and where it stops, one law for each.
 use mathlib.Core.Path.{◌≡◌, refl, sym, ◌∙◌}
 use mathlib.Core.Bool.{Bool}
-use mathlib.Core.List.{List, map}
+use mathlib.Core.List.{List}
 use Prim.Native.Nat.{ℕ, suc, ◌+◌, ◌-◌, ◌≤◌, ◌<◌}
 use native.Mathlib.Numerals.{add-one}
 use native.Mathlib.Omega.{arith}
@@ -13,7 +13,6 @@ use Rattle.table.proofs.Accepted.{accepted}
 use Rattle.table.proofs.AcceptedTable.{body_readable, question_start}
 use Rattle.table.proofs.Terms.{from_place}
 use Rattle.rules.specs.Tableau.{start}
-use Rattle.rules.specs.Comparison.{a_clash, a_circle}
 use Rattle.rules.specs.Machinery.Play.{Play, begin, Performed, perform, at_end, onwards, check_from, check}
 use Rattle.unification.specs.Places.{most_variables}
 use Rattle.unification.specs.State.{numbered_at, ClauseAt, bindings_of}
@@ -25,7 +24,7 @@ use Rattle.index.proofs.Linking.{indexed_same}
 use Rattle.engine.proofs.Literals.Entries.{few_literals}
 use Rattle.engine.specs.Ended.{setting_for}
 use Rattle.engine.specs.declared.Conditions.{Conditions}
-use Rattle.engine.specs.Checking.{status_for, NotedFor, Moved, PlayAt, Says, read_for, Checked, AcceptedAs, RefusedAs}
+use Rattle.engine.specs.Checking.{NotedFor, Moved, PlayAt, Says, read_for, Checked, AcceptedAs, RefusedAs}
 use Rattle.tableaux.specs.declared.tableau.Place.{Place}
 use Rattle.std.specs.Prelude.{Result, Ok, Err}
 use Rattle.engine.specs.declared.check.Refusal.{Refusal}

@@ -6,14 +6,14 @@ use mathlib.Core.Option.{Option as Maybe, none, some}
 use Prim.Native.Nat.{ℕ, zero, suc, ◌+◌, ◌-◌, ◌/◌, ◌≤◌, ◌<◌}
 use native.Mathlib.Omega.{arith}
 use borrow.Author.Tests.{eq-eqb, ne_eqb, le-ltb, eqb-true, eqb-false}
-use lib.Dec.{eqb, ltb}
-use lib.ListN.{length, take, drop, get_or, get_elem?}
+use lib.Dec.{eqb}
+use lib.ListN.{length, drop, get_or, get_elem?}
 use Rattle.words.specs.Fields.{bits, plain, negative_of}
 use Rattle.words.specs.Steps.{step_of, step_read}
 use Rattle.words.proofs.Packed.{bits_small}
 use Rattle.words.specs.declared.Step.{Step}
 use Rattle.words.specs.declared.Step.TheVariants as step
-use Rattle.table.specs.Syntax.{Literal, literal_under, Clause, Table, all_clauses}
+use Rattle.table.specs.Syntax.{Literal, literal_under, Clause, all_clauses}
 use Rattle.table.specs.Decode.{clause_of}
 use Rattle.table.specs.File.{judge, table_in}
 use Rattle.table.proofs.AcceptedTable.{body_readable, question_start}

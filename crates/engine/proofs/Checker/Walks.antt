@@ -9,6 +9,7 @@ use native.Mathlib.Omega.{arith}
 use lib.ListN.{length, drop, get_or, get_elem?, drop_of_length-le, length-map}
 use lib.Seq.{drop-cons}
 use Rattle.words.specs.Fields.{kind_of, literals_of}
+use Rattle.table.proofs.Bodies.{seek_laws}
 use Rattle.table.specs.Body.{body_fault, starts}
 use Rattle.table.specs.File.{body_of, judge, table_in}
 use Rattle.table.specs.Readers.{BeginsAt}
@@ -176,3 +177,8 @@ module _ (f : List ℕ) (z : (judge f).status ≡ 0) where
                   clauses = refl;
                   literals = refl;
                 }
+
+-- the first words of clauses
+pub ruleset start_laws = (seek_laws)
+
+pub ruleset walk_laws = (walk_least, walk_most, walk_beyond, walk_asks, walk_inside, walk_short, walk_some, walk_fits, walk_found)

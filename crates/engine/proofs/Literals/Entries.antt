@@ -11,17 +11,16 @@ use Rattle.words.specs.Fields.{kind_of, arity_of, literal_shaped}
 use Rattle.words.proofs.Packed.{bits_small}
 use Rattle.table.specs.Syntax.{Term, literal_under, Clause, all_clauses}
 use Rattle.table.specs.Body.{starts, last_of}
-use Rattle.table.specs.Decode.{terms_from, clause_of, clauses_of, table_of}
+use Rattle.table.specs.Decode.{terms_from, clauses_of, table_of}
 use Rattle.table.specs.Limits.{Words, Readable}
 use Rattle.table.proofs.BodyDecoding.{clauses_count}
 use Rattle.rules.specs.Substitution.{Variable}
 use Rattle.rules.specs.Order.{extensions}
-use Rattle.unification.specs.State.{own_words}
 use Rattle.index.specs.declared.entries.Scan.{Scan}
 use Rattle.std.specs.Prelude.{None}
 use Rattle.tableaux.specs.Leaves.{offsets_at}
 use Rattle.index.specs.Scanning.{begun, entries_from, Standing, entry_from, EntryAt, other_sign}
-use Rattle.tableaux.specs.Entering.{extension_at, literal_from, LiteralAt, Enters, Owes}
+use Rattle.tableaux.specs.Entering.{extension_at, literal_from, Enters, Owes}
 use Rattle.index.specs.Noting.{Few}
 use Rattle.engine.proofs.Literals.Sound.{owing_arity}
 use Rattle.engine.proofs.Literals.Places.{table_clauses, some_length}

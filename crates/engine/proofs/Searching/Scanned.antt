@@ -1,11 +1,11 @@
 -- What a scan for the next literal with a word passes, and what the scans of a search cost.
-use mathlib.Core.Bool.{Bool, true, false}
+use mathlib.Core.Bool.{Bool, true, false, not}
 use mathlib.Core.Path.{◌≡◌, sym, ◌∙◌}
 use mathlib.Core.List.{List}
 use Prim.Native.Nat.{ℕ, ◌+◌, ◌-◌, ◌≤◌, ◌<◌}
 use native.Mathlib.Omega.{arith}
 use borrow.Author.Tests.{eq-eqb, ne_eqb, lt-ltb, le-ltb}
-use lib.Dec.{leb}
+use lib.Dec.{eqb, leb}
 use lib.ListN.{length, take, get_or, set}
 use Rattle.index.specs.Places.{scanned_place}
 use Rattle.index.specs.Scanning.{Standing, IsNext}
@@ -35,9 +35,13 @@ module _ (m : List ℕ) (limit : ℕ) where
 
 -- whether a search by scans is given up
 module _ (m : List ℕ) (limit left : ℕ) where
-  pub goes_on_out : left ≡ 0 → false ≡ gives_up m limit left
+  goes_on_out : left ≡ 0 → false ≡ gives_up m limit left
   unfolding gives_up
   goes_on_out z = rw (eq-eqb left 0 z)
+
+  pub gives_up_out : left ≡ 0 → not (eqb left 0) ≡ gives_up m limit left
+  unfolding gives_up
+  gives_up_out z = rw (eq-eqb left 0 z)
 
   pub gives_up_lem : (left ≡ 0 → ⊥) → leb limit (get_or m scanned_place 0) ≡ gives_up m limit left
   unfolding gives_up

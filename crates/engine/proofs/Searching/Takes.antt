@@ -19,7 +19,7 @@ use Rattle.index.specs.declared.entries.Scan.{Scan}
 use Rattle.engine.specs.declared.search.Move.TheVariants.{Reduce, Enter, Renew}
 use Rattle.engine.specs.declared.search.Task.{Task}
 use Rattle.tableaux.specs.declared.tableau.Place.{Place}
-use Rattle.std.specs.Prelude.{Result, Ok, Err}
+use Rattle.std.specs.Prelude.{Result, Ok}
 use Rattle.unification.specs.declared.unify.Unmet.{Unmet}
 use Rattle.engine.proofs.Performed.{open_first, Literate, stands_literate, copy_word, copy_literate, alike_other, fits_other, reduction_comes, extension_comes, restart_comes}
 use Rattle.tableaux.proofs.Literals.{hanging_fewer, hanging_all, clause_few}

@@ -17,9 +17,9 @@ use Rattle.table.proofs.BodyDecoding.{each_take}
 use Rattle.rules.specs.Setting.{profile_of}
 use Rattle.rules.specs.Order.{all_closed, candidates, candidates_at, extensions}
 use Rattle.rules.specs.Machinery.Play.{Play, at_end, check_from, plays}
-use Rattle.rules.specs.Machinery.Run.{Result, no_way, after, search, row}
+use Rattle.rules.specs.Machinery.Run.{Result, after, search, row}
 use Rattle.rules.specs.Tableau.{Leaf, fresh}
-use Rattle.rules.proofs.System.Steps.{search_done, search_open, row_end}
+use Rattle.rules.proofs.System.Steps.{search_done, search_open}
 use Rattle.unification.specs.Places.{most_leaves, work_words}
 use Rattle.unification.specs.State.{start_at, copies_of, next_at, words_at, literal_at_reference}
 use Rattle.unification.specs.Good.{word_at, Inside}
