@@ -22,7 +22,7 @@ use Rattle.requests.specs.Rows.{number_at, counted, list_at, wholly, bytes_at, b
 use Rattle.requests.specs.declared.piece.Number.{Number as Numbered}
 use Rattle.requests.specs.declared.listed.Run.{Run}
 use Rattle.requests.specs.declared.request.Field.{Field}
-use Rattle.requests.specs.declared.request.Field.TheVariants.{Number, Words, Records, Bytes}
+use Rattle.requests.specs.declared.request.Field.TheVariants.{Number, Words, Records, Bytes, Unknown}
 use Rattle.requests.specs.declared.request.Said.{Said}
 use Rattle.requests.proofs.Lists.{front_length, same_lengths}
 
@@ -100,6 +100,10 @@ module _ (line : List ℕ) (at : ℕ) {kind : Field} where
   pub field_number : {limit : ℕ} → kind ≡ Number limit → number_at limit line at ≡ field_at line at kind
   unfolding field_at
   field_number e = rw e
+
+  pub field_unknown : kind ≡ Unknown → None ≡ field_at line at kind
+  unfolding field_at
+  field_unknown e = rw e
 
   module _ (b : None ≡ barred_at line at) where
     pub no_words : {room : ℕ} → kind ≡ Words room → None ≡ field_at line at kind

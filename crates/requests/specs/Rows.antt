@@ -10,7 +10,7 @@ use Rattle.requests.specs.Bytes.{bytes_of}
 use Rattle.requests.specs.declared.piece.Number.{Number}
 use Rattle.requests.specs.declared.listed.Run.{Run}
 use Rattle.requests.specs.declared.request.Field.{Field}
-use Rattle.requests.specs.declared.request.Field.TheVariants.{Number as number, Words, Records, Bytes}
+use Rattle.requests.specs.declared.request.Field.TheVariants.{Number as number, Words, Records, Bytes, Unknown}
 use Rattle.requests.specs.declared.request.Said.{Said}
 
 abbrev pub said : ℕ → ℕ → Option Said
@@ -53,12 +53,13 @@ bytes_at room line at =
 unfoldable pub barred_at : List ℕ → ℕ → Option ℕ
 barred_at line at = cond (same_bytes (piece_at line at) (bytes "/")) (Some (at + 2)) None
 
--- a field by its kind
+-- a field by its kind; one of no kind is said by no line
 unfoldable pub field_at : List ℕ → ℕ → Field → Option Said
 field_at line at (number limit) = number_at limit line at
 field_at line at (Words room) = option_and_then (words_at room line) (barred_at line at)
 field_at line at (Records room) = option_and_then (records_at room line) (barred_at line at)
 field_at line at (Bytes room) = option_and_then (bytes_at room line) (barred_at line at)
+field_at line at Unknown = None
 
 -- the line ends with the fields of a row
 abbrev pub further : Option Said → (ℕ → Bool) → Bool

@@ -15,6 +15,8 @@ pub enum Field {
     Words(u32),
     Records(u32),
     Bytes(u32),
+    // A kind that is none of these: no line says it.
+    Unknown,
 }
 
 // What a field says, and where the piece after it begins. A list is told by the position where it begins.
@@ -108,6 +110,7 @@ fn read_field(line: &[u8], at: usize, kind: Field) -> Option<Said>
             list(line, at, wide(room), records::records(line, at))
         }
         Field::Bytes(room) => bytes(line, barred(line, at)?, wide(room)),
+        Field::Unknown => None,
     }
 }
 

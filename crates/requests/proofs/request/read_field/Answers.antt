@@ -1,5 +1,5 @@
 use Rattle.std.proofs.Common.{◌∙◌}
-use Rattle.requests.proofs.Rows.{field_number, no_words, no_records, no_barred_bytes, field_words, field_records, field_bytes}
+use Rattle.requests.proofs.Rows.{field_number, field_unknown, no_words, no_records, no_barred_bytes, field_words, field_records, field_bytes}
 use Rattle.requests.proofs.request.read_field.Goals as goal
 
 pub returns-in_err-at-in-Words : goal.returns-in_err-at-in-Words
@@ -27,3 +27,6 @@ returns-in_ok-at-in-Records c =
 pub returns-in_ok-barred-in-Bytes : goal.returns-in_ok-barred-in-Bytes
 returns-in_ok-barred-in-Bytes c =
     c.bytes.ensures ∙ field_bytes c.args.line.now c.args.at c.in_ok-barred-in-Bytes.ensures c.wide-in-Bytes.ensures c.in-Bytes.is
+
+pub returns-in-Unknown : goal.returns-in-Unknown
+returns-in-Unknown c = field_unknown c.args.line.now c.args.at c.in-Unknown.is
