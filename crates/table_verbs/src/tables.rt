@@ -4,6 +4,7 @@ use requests::{piece, records, request};
 use results::{clause, counts, desk as said, slimmed};
 use std::io;
 use text::part;
+use words::room;
 
 fn lookup(rt: &impl Print, file: &[u32], number: usize) -> io::Result<()> {
     let mut out = [0u8; 4096];
@@ -13,7 +14,7 @@ fn lookup(rt: &impl Print, file: &[u32], number: usize) -> io::Result<()> {
 }
 
 fn answer_lookup(rt: &impl Print, line: &[u8], values: &[usize]) -> io::Result<()> {
-    let mut space = lent::file_buffer();
+    let mut space: [u32; lent::FILE_ROOM] = room::filled(0);
     let n = piece::gather(line, request::place(values, 1), &mut space);
     lookup(rt, part::front(&space, n), request::place(values, 0))
 }
@@ -25,7 +26,7 @@ fn slim_file(
     numbers: &mut [u32],
 ) -> io::Result<()> {
     let s = slim::calls::slim(file, slimmer, numbers);
-    let mut out = lent::line_buffer();
+    let mut out: [u8; lent::LINE_ROOM] = room::filled(0);
     let n = slimmed::slimmed(
         &mut out, 0, s.status, s.place, s.words, s.clauses, slimmer, numbers,
     );
@@ -34,15 +35,15 @@ fn slim_file(
 
 // Lends the words for the slimmer file and for the old numbers that are asked for.
 fn lend_slim(rt: &impl Print, file: &[u32], words: usize, numbers: usize) -> io::Result<()> {
-    let mut slimmer = lent::long_buffer();
-    let mut old = lent::long_buffer();
-    let a = lent::least(words, 20000);
-    let b = lent::least(numbers, 20000);
+    let mut slimmer: [u32; lent::LONG_ROOM] = room::filled(lent::FILLED);
+    let mut old: [u32; lent::LONG_ROOM] = room::filled(lent::FILLED);
+    let a = words.min(lent::LONG_ROOM);
+    let b = numbers.min(lent::LONG_ROOM);
     slim_file(rt, file, &mut slimmer[..a], &mut old[..b])
 }
 
 fn answer_slim(rt: &impl Print, line: &[u8], values: &[usize]) -> io::Result<()> {
-    let mut space = lent::file_buffer();
+    let mut space: [u32; lent::FILE_ROOM] = room::filled(0);
     let n = piece::gather(line, request::place(values, 2), &mut space);
     lend_slim(
         rt,
@@ -53,7 +54,7 @@ fn answer_slim(rt: &impl Print, line: &[u8], values: &[usize]) -> io::Result<()>
 }
 
 fn answer_desk(rt: &impl Print, line: &[u8], values: &[usize]) -> io::Result<()> {
-    let mut space = lent::record_buffer();
+    let mut space: [u32; lent::RECORD_ROOM] = room::filled(0);
     let n = records::gather(line, request::place(values, 5), &mut space);
     let report = desk::ask_desk(
         part::front(&space, n),
@@ -79,7 +80,7 @@ fn report_season(
     work: &mut [u32],
 ) -> io::Result<()> {
     let r = season::season(table, entries, list, proof, answer, work);
-    let mut out = lent::line_buffer();
+    let mut out: [u8; lent::LINE_ROOM] = room::filled(0);
     let n = counts::season(&mut out, 0, r, proof, answer, work);
     lent::write_line(rt, &out, n)
 }
@@ -94,12 +95,12 @@ fn lend_season(
     answers: usize,
     works: usize,
 ) -> io::Result<()> {
-    let mut proof = lent::short_buffer();
-    let mut answer = lent::long_buffer();
-    let mut work = lent::long_buffer();
-    let p = lent::least(proofs, 300);
-    let a = lent::least(answers, 20000);
-    let w = lent::least(works, 20000);
+    let mut proof: [u32; lent::PROOF_ROOM] = room::filled(lent::FILLED);
+    let mut answer: [u32; lent::LONG_ROOM] = room::filled(lent::FILLED);
+    let mut work: [u32; lent::LONG_ROOM] = room::filled(lent::FILLED);
+    let p = proofs.min(lent::PROOF_ROOM);
+    let a = answers.min(lent::LONG_ROOM);
+    let w = works.min(lent::LONG_ROOM);
     report_season(
         rt,
         table,
@@ -112,11 +113,11 @@ fn lend_season(
 }
 
 fn answer_season(rt: &impl Print, line: &[u8], values: &[usize]) -> io::Result<()> {
-    let mut space = lent::file_buffer();
+    let mut space: [u32; lent::FILE_ROOM] = room::filled(0);
     let n = piece::gather(line, request::place(values, 5), &mut space);
-    let mut entries = lent::entry_buffer();
+    let mut entries: [u32; lent::ENTRY_ROOM] = room::filled(0);
     let m = piece::gather(line, request::place(values, 3), &mut entries);
-    let mut list = lent::file_buffer();
+    let mut list: [u32; lent::FILE_ROOM] = room::filled(0);
     let l = piece::gather(line, request::place(values, 4), &mut list);
     lend_season(
         rt,
