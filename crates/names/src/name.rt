@@ -7,7 +7,7 @@ ghost use Rattle.names.specs.Noting.{name_at};
 use clausetext::token;
 
 // The bytes of the name at a place; none where no name stands there.
-pub(crate) fn at(text: &[u8], place: usize) -> &[u8]
+pub fn at(text: &[u8], place: usize) -> &[u8]
     ensures { result.now ≡ name_at text.now place }
 {
     if text.len() <= place {

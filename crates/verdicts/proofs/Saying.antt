@@ -2,12 +2,11 @@
 use mathlib.Core.Bool.{Bool, true, false}
 use mathlib.Core.List.{List, ◌++◌}
 use mathlib.Core.Path.{◌≡◌, refl, ◌∙◌}
+use mathlib.Core.Logic.{◌⊎◌, inl, inr}
 use Prim.Native.Nat.{ℕ, zero, suc, ◌+◌, ◌≤◌, ◌<◌}
 use native.Mathlib.Numerals.{add-one}
 use borrow.Author.Tests.{eq-eqb, ne_eqb, lt-ltb, le-ltb}
-use lib.Dec.{eqb}
 use lib.ListN.{length, take, drop, get_or}
-use Rattle.words.specs.Fields.{sign_of, symbol_of, arity_of}
 use Rattle.words.specs.Steps.{step_of}
 use Rattle.words.specs.declared.Step.{Step}
 use Rattle.words.specs.declared.Step.TheVariants.{Reduction, Extension, Restart, Malformed}
@@ -99,13 +98,10 @@ module _ {o₀ o₁ : List ℕ} {n₀ n₁ : ℕ} where
     unfolding partner_label
     label_extension k p = rw (← e, k) p
 
-    pub label_restart : s ≡ Restart → Put o₀ n₀ (leaf_text S steps (bytes "literal: ") leaf) o₁ n₁ → Put o₀ n₀ (leaf_text S steps (partner_label (step_of w)) leaf) o₁ n₁
+    pub label_other : (s ≡ Restart) ⊎ (s ≡ Malformed) → Put o₀ n₀ (leaf_text S steps (bytes "literal: ") leaf) o₁ n₁ → Put o₀ n₀ (leaf_text S steps (partner_label (step_of w)) leaf) o₁ n₁
     unfolding partner_label
-    label_restart k p = rw (← e, k) p
-
-    pub label_malformed : s ≡ Malformed → Put o₀ n₀ (leaf_text S steps (bytes "literal: ") leaf) o₁ n₁ → Put o₀ n₀ (leaf_text S steps (partner_label (step_of w)) leaf) o₁ n₁
-    unfolding partner_label
-    label_malformed k p = rw (← e, k) p
+    label_other (inl k) p = rw (← e, k) p
+    label_other (inr k) p = rw (← e, k) p
 
   -- what was awaited
   module _ {a : Awaited} where
@@ -260,20 +256,6 @@ module _ (sizes : List ℕ) (question : ℕ) (steps : List ℕ) (done w : ℕ) {
   unfolding partner
   partner_extension k er = er ∙ rw (← e, k, add-one)
 
-module _ (v w : ℕ) {sv sw : ℕ} (ev : sv ≡ sign_of v) (ew : sw ≡ sign_of w) where
-  pub fit_sign : sv ≡ sw → false ≡ fitting v w
-  unfolding fitting
-  fit_sign e = rw (← ev, ← ew, eq-eqb sv sw e)
-
-  module _ (n : sv ≡ sw → ⊥) {pv pw : ℕ} (fv : pv ≡ symbol_of v) (fw : pw ≡ symbol_of w) where
-    pub fit_symbol : (pv ≡ pw → ⊥) → false ≡ fitting v w
-    unfolding fitting
-    fit_symbol m = rw (← ev, ← ew, ne_eqb sv sw n, ← fv, ← fw, ne_eqb pv pw m)
-
-    pub fit_arity : pv ≡ pw → {av aw : ℕ} → av ≡ arity_of v → aw ≡ arity_of w → eqb av aw ≡ fitting v w
-    unfolding fitting
-    fit_arity m gv gw = rw (← ev, ← ew, ne_eqb sv sw n, ← fv, ← fw, eq-eqb pv pw m, ← gv, ← gw)
-
 pub ruleset hung_text_laws = (hung_start, hung_step)
 
 pub ruleset fault_laws = (fault_12, fault_14, fault_20, fault_13)
@@ -286,18 +268,10 @@ pub ruleset against_laws = (against_none, against_open)
 
 pub ruleset why_laws = (why_open, why_none)
 
-pub ruleset label_laws = (label_reduction, label_extension, label_restart, label_malformed)
-
 pub ruleset awaited_laws = (awaited_step, awaited_height, awaited_clause, awaited_literal)
 
-pub ruleset refused_laws = (refused_open, refused_step)
-
 pub ruleset accepted_laws = (definite_is, open_is)
-
-pub ruleset leaf_laws = (leaf_none, leaf_open)
 
 pub ruleset entered_laws = (entered_open, entered_none)
 
 pub ruleset partner_laws = (partner_reduction, partner_extension)
-
-pub ruleset fit_laws = (fit_sign, fit_symbol, fit_arity)

@@ -235,18 +235,7 @@ fn partner_line(
             out,
             from,
         ),
-        Step::Restart => leaf_line(
-            text,
-            index,
-            file,
-            bound,
-            steps,
-            b"literal: ",
-            leaf,
-            out,
-            from,
-        ),
-        Step::Malformed => leaf_line(
+        Step::Restart | Step::Malformed => leaf_line(
             text,
             index,
             file,
@@ -284,16 +273,13 @@ fn fault(status: u32, out: &mut [u8], from: usize) -> usize
 }
 
 // A fitting pair has opposite signs, the same predicate and as many arguments.
+#[tactic(auto, unfolding(crate::specs::Verdicts::fitting))]
 fn fitting(v: u32, w: u32) -> bool
     ensures { result ≡ fitting v w }
 {
-    if fields::sign(v) == fields::sign(w) {
-        return false;
-    }
-    if fields::symbol(v) != fields::symbol(w) {
-        return false;
-    }
-    fields::arity(v) == fields::arity(w)
+    fields::sign(v) != fields::sign(w)
+        && fields::symbol(v) == fields::symbol(w)
+        && fields::arity(v) == fields::arity(w)
 }
 
 fn pair(limit: u32, fits: bool, out: &mut [u8], from: usize) -> usize

@@ -1,7 +1,8 @@
 -- Numbers and words written and read again.
 use mathlib.Core.Bool.{Bool, true, false, cond, ◌&&◌}
 use mathlib.Core.List.{List, [], ◌∷◌}
-use Rattle.std.specs.Prelude.{Some}
+use Rattle.std.specs.Prelude.{Option, Some, None}
+use Rattle.std.specs.Option.{option_eq}
 use mathlib.Core.Path.{◌≡◌, refl, sym, ap, ◌∙◌}
 use Prim.Native.Nat.{ℕ, zero, suc, ◌+◌, ◌*◌, ◌/◌, ◌%◌, ◌^◌, ◌≤◌, ◌<◌}
 use native.Mathlib.Omega.{arith}
@@ -44,21 +45,25 @@ some_bytes [] = false
 some_bytes (c ∷ cs) = solid (c ∷ cs)
 
 abbrev sound : ℕ → Bool
-sound n = eqb (number_said (decimal_text n)) n && (some_bytes (decimal_text n) && cond (begins (decimal_text n)) false true)
+sound n = option_eq eqb (number_said (decimal_text n)) (Some n) && (some_bytes (decimal_text n) && cond (begins (decimal_text n)) false true)
 
 each_sound : all_below sound 512 ≡ true
 unfolding all_below number_said number_of value_from digit_of significant digits_of up_to solid begins
 each_sound = refl
 
+pub some_told : (o : Option ℕ) (n : ℕ) → option_eq eqb o (Some n) ≡ true → o ≡ Some n
+some_told None n e = cc
+some_told (Some m) n e = ap (λ (k : ℕ). Some k) (eqb-true m n e)
+
 module _ (n : ℕ) (h : n < 512) where
-  pub number_back : number_said (decimal_text n) ≡ n
-  number_back = eqb-true (number_said (decimal_text n)) n (and_left _ _ (below sound 512 each_sound n h))
+  pub number_back : number_said (decimal_text n) ≡ Some n
+  number_back = some_told (number_said (decimal_text n)) n (and_left _ _ (below sound 512 each_sound n h))
 
   pub number_solid : some_bytes (decimal_text n) ≡ true
-  number_solid = and_left (some_bytes (decimal_text n)) _ (and_right (eqb (number_said (decimal_text n)) n) _ (below sound 512 each_sound n h))
+  number_solid = and_left (some_bytes (decimal_text n)) _ (and_right (option_eq eqb (number_said (decimal_text n)) (Some n)) _ (below sound 512 each_sound n h))
 
   pub number_begins : begins (decimal_text n) ≡ false
-  number_begins = turned (begins (decimal_text n)) (and_right (some_bytes (decimal_text n)) _ (and_right (eqb (number_said (decimal_text n)) n) _ (below sound 512 each_sound n h)))
+  number_begins = turned (begins (decimal_text n)) (and_right (some_bytes (decimal_text n)) _ (and_right (option_eq eqb (number_said (decimal_text n)) (Some n)) _ (below sound 512 each_sound n h)))
     where
       turned : (b : Bool) → cond b false true ≡ true → b ≡ false
       turned true e = sym e

@@ -1,4 +1,3 @@
-use borrow.Author.Rules.{rules}
 use Rattle.verdicts.proofs.Saying.{leaf_none, leaf_open}
 use Rattle.verdicts.proofs.verdict.leaf_line.Goals as goal
 
