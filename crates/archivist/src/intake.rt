@@ -4,7 +4,7 @@ ghost use Rattle.std.specs.Prelude.{◌≡◌, length};
 use crate::streams::Stream;
 use crate::{arguments, files, telling};
 use assistant::refusal;
-use reports::records::{Fault, Wanted};
+use reports::records::Fault;
 use reports::{records, said};
 use std::io;
 use text::part;
@@ -48,13 +48,9 @@ fn answer(rt: &HostRuntime, name: &[u8], text: &[u8], day: u32, house: u32) -> i
     if 65536 < text.len() {
         return long(rt, name, text);
     }
-    let f = records::first_fault(text);
-    match f.wanted {
-        Wanted::Nothing => tell(rt, text, day, house),
-        Wanted::Day => complain(rt, name, text, f),
-        Wanted::House => complain(rt, name, text, f),
-        Wanted::Slot => complain(rt, name, text, f),
-        Wanted::LineEnd => complain(rt, name, text, f),
+    match records::first_fault(text) {
+        None => tell(rt, text, day, house),
+        Some(fault) => complain(rt, name, text, fault),
     }
 }
 

@@ -10,16 +10,12 @@ use Rattle.desk.specs.declared.Report.{Report}
 use Rattle.desk.specs.declared.Report.TheVariants.{Refused, RanOut, Matinee, Evening, MatineeAndEvening, Either, NotRecorded}
 use Rattle.assistant.specs.Refusals.{located_text}
 use Rattle.reports.specs.declared.records.Wanted.{Wanted}
-use Rattle.reports.specs.declared.records.Wanted.TheVariants.{Nothing, Day, House, Slot, LineEnd}
+use Rattle.reports.specs.declared.records.Wanted.TheVariants.{Day, House, Slot, LineEnd}
 use Rattle.reports.specs.declared.records.Fault.{Fault}
 use Rattle.reports.specs.Said.{wanted_text, wrong_record_text, slot_text, desk_text}
 
 module _ {o₀ o₁ : List ℕ} {n₀ n₁ : ℕ} where
   module _ {w : Wanted} where
-    pub want_nothing : w ≡ Nothing → Put o₀ n₀ (bytes "expected nothing else\n") o₁ n₁ → Put o₀ n₀ (wanted_text w) o₁ n₁
-    unfolding wanted_text
-    want_nothing e p = rw e p
-
     pub want_day : w ≡ Day → Put o₀ n₀ (bytes "expected a day, 1 to 366\n") o₁ n₁ → Put o₀ n₀ (wanted_text w) o₁ n₁
     unfolding wanted_text
     want_day e p = rw e p
@@ -78,6 +74,6 @@ module _ {o₀ o₁ : List ℕ} {n₀ n₁ : ℕ} where
       unfolding desk_text
       desk_is day house r p q s t = then p (then q (then s t))
 
-pub ruleset want_laws = (want_nothing, want_day, want_house, want_slot, want_end)
+pub ruleset want_laws = (want_day, want_house, want_slot, want_end)
 
 pub ruleset slot_laws = (says_refused, says_out, says_matinee, says_evening, says_both, says_either, says_nothing)

@@ -6,11 +6,10 @@ use Rattle.desk.specs.declared.Report.{Report}
 use Rattle.desk.specs.declared.Report.TheVariants.{Refused, RanOut, Matinee, Evening, MatineeAndEvening, Either, NotRecorded}
 use Rattle.assistant.specs.Refusals.{located_text}
 use Rattle.reports.specs.declared.records.Wanted.{Wanted}
-use Rattle.reports.specs.declared.records.Wanted.TheVariants.{Nothing, Day, House, Slot, LineEnd}
+use Rattle.reports.specs.declared.records.Wanted.TheVariants.{Day, House, Slot, LineEnd}
 use Rattle.reports.specs.declared.records.Fault.{Fault}
 
 unfoldable pub wanted_text : Wanted → List ℕ
-wanted_text Nothing = bytes "expected nothing else\n"
 wanted_text Day = bytes "expected a day, 1 to 366\n"
 wanted_text House = bytes "expected a house, 1 to 999\n"
 wanted_text Slot = bytes "expected a slot: matinee, evening or either\n"

@@ -12,7 +12,6 @@ fn wanted(out: &mut [u8], at: usize, w: Wanted) -> usize
     ensures { Put out.old at (wanted_text w) out.new result }
 {
     match w {
-        Wanted::Nothing => put::bytes(out, at, b"expected nothing else\n"),
         Wanted::Day => put::bytes(out, at, b"expected a day, 1 to 366\n"),
         Wanted::House => put::bytes(out, at, b"expected a house, 1 to 999\n"),
         Wanted::Slot => put::bytes(out, at, b"expected a slot: matinee, evening or either\n"),
