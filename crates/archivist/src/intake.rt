@@ -3,7 +3,7 @@ use crate::streams::Stream;
 use crate::{arguments, files, telling};
 use assistant::refusal;
 use desk::Report;
-use reports::records::{Fault, Wanted};
+use reports::records::Fault;
 use reports::{records, said};
 use std::io;
 use text::part;
@@ -45,10 +45,9 @@ fn answer(rt: &HostRuntime, name: &[u8], text: &[u8], day: u32, house: u32) -> i
     if 65536 < text.len() {
         return long(rt, name, text);
     }
-    let f = records::first_fault(text);
-    match f.wanted {
-        Wanted::Nothing => tell(rt, text, day, house),
-        _ => complain(rt, name, text, f),
+    match records::first_fault(text) {
+        None => tell(rt, text, day, house),
+        Some(fault) => complain(rt, name, text, fault),
     }
 }
 
