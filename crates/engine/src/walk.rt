@@ -18,11 +18,8 @@ fn start_of(body: &[u32], number: usize) -> usize
     ensures { BeginsAt body.now number result }
 {
     let mut at = 0;
-    let mut left = number;
-    // No index: whole clauses are passed.
-    while left > 0 {
+    for _ in 0..number {
         at += fields::wide(fields::following(body[at])) + 1;
-        left -= 1;
     }
     at
 }
