@@ -4,6 +4,9 @@ use Rattle.reports.proofs.said.wanted.Goals as goal
 
 ruleset all = (rules, want_laws)
 
+pub returns-in-Nothing : goal.returns-in-Nothing
+returns-in-Nothing c = search all
+
 pub returns-in-Day : goal.returns-in-Day
 returns-in-Day c = search all
 
