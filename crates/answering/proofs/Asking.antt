@@ -9,9 +9,8 @@ use lib.ListN.{length, take, drop}
 use lib.Seq.{take-append_seam}
 use Rattle.table.specs.Encode.{file_words}
 use Rattle.table.specs.File.{judge, table_in}
-use Rattle.clausetext.specs.declared.judge.Verdict.{Verdict}
 use Rattle.clausetext.specs.Syntax.{Clause}
-use Rattle.clausetext.specs.Texts.{Says, questions, Verdicts}
+use Rattle.clausetext.specs.Texts.{Verdict, Says, questions, Verdicts}
 use Rattle.clausetext.proofs.Judgement.{only_verdict}
 use Rattle.tptp.specs.Said.{table_said}
 use Rattle.tptp.specs.declared.TextRead.{TextRead}

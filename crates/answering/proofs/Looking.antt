@@ -163,6 +163,14 @@ module _ {file : List ℕ} {limit budget : ℕ} {proof₀ answer₀ work₀ proo
           rest = i.rest ∙ look_on (asked file) budget bound used left none ∙ rw (t.tries, add-one bound);
         }
 
+-- all bounds below the limit said "none"
+pub look_through : {file : List ℕ} {limit budget : ℕ} {proof₀ answer₀ work₀ proof answer work : List ℕ} {bound used : ℕ}
+    → Looking file limit budget proof₀ answer₀ work₀ proof answer work bound used → limit ≤ bound
+    → Looking file limit budget proof₀ answer₀ work₀ proof answer work limit used
+look_through {limit = limit} {bound = bound} i h =
+    let e : bound ≡ limit = omega (arith, i.low) in
+    rw e at i
+
 pub ruleset bound_laws = (tries_word, bound_told)
 
 pub ruleset long_laws = (proof_long, answer_long, work_same)

@@ -1,4 +1,5 @@
 -- What is promised of `ask`.
+use Rattle.std.specs.Prelude.{Err}
 use mathlib.Core.Bool.{Bool, true, false}
 use mathlib.Core.List.{List}
 use mathlib.Core.Logic.{inl, inr}
@@ -8,9 +9,8 @@ use native.Mathlib.Omega.{arith}
 use borrow.Author.Tests.{eqb-true, eqb-false, ne_eqb}
 use lib.Dec.{eqb}
 use lib.ListN.{length}
-use Rattle.clausetext.specs.declared.judge.Verdict.TheVariants.{Wrong, Fine}
 use Rattle.clausetext.specs.Syntax.{Clause}
-use Rattle.clausetext.specs.Texts.{Says, Verdicts}
+use Rattle.clausetext.specs.Texts.{Verdict, counts, Says, Verdicts}
 use Rattle.clausetext.proofs.Judgement.{only_verdict}
 use Rattle.clausetext.proofs.OneReading.{one_reading}
 use Rattle.hukolearu.specs.Calls.{Given, SearchAsked}
@@ -45,9 +45,9 @@ said_once (answered q f d) (over p g) = absurd (g f)
 said_once (answered q f d) (positive p g e) = absurd (e d)
 said_once (answered q f d) (answered p g e) = refl
 
-wrong_said : {text : List ℕ} {place : ℕ} {cs : List Clause} → Verdicts text (Wrong place) → length text ≤ 65536 → Says text cs → ⊥
+wrong_said : {text : List ℕ} {place : ℕ} {cs : List Clause} → Verdicts text (Err place) → length text ≤ 65536 → Says text cs → ⊥
 wrong_said w h y =
-    let e : Wrong _ ≡ Fine _ _ = sym (only_verdict w) ∙ only_verdict (Verdicts.fine h y) in
+    let e : Err _ ≡ counts _ _ = sym (only_verdict w) ∙ only_verdict (Verdicts.fine h y) in
     let z : ◌≡◌ {A = ℕ} 0 1 = cc in omega (arith, z)
 
 once : {o : Options} {name text a b : List ℕ} → AskSays o name text a → AskSays o name text b → a ≡ b
@@ -56,7 +56,7 @@ once (unlimited h) (wrong k w) = absurd (omega (arith, h, k))
 once (unlimited h) (said k l y s) = absurd (omega (arith, h, k))
 once (wrong h v) (unlimited k) = absurd (omega (arith, h, k))
 once (wrong {place = p} h v) (wrong {place = q} k w) =
-    let e : Wrong p ≡ Wrong q = sym (only_verdict v) ∙ only_verdict w in
+    let e : ◌≡◌ {A = Verdict} (Err p) (Err q) = sym (only_verdict v) ∙ only_verdict w in
     let z : p ≡ q = cc in rw z
 once (wrong h v) (said k l y s) = absurd (wrong_said v l y)
 once (said h l y s) (unlimited k) = absurd (omega (arith, h, k))

@@ -1,11 +1,12 @@
 -- Why a text is refused, one law for each outcome, with premises as the code has them.
+use Rattle.clausetext.specs.Texts.{Verdict}
+use Rattle.std.specs.Prelude.{Ok, Err}
+use Rattle.clausetext.specs.declared.judge.Counts.{Counts}
 use mathlib.Core.List.{List}
 use mathlib.Core.Path.{◌≡◌, sym, ap, ◌∙◌}
 use Prim.Native.Nat.{ℕ}
 use native.Mathlib.Omega.{arith}
 use Rattle.clausetext.specs.Judging.{judged}
-use Rattle.clausetext.specs.declared.judge.Verdict.{Verdict}
-use Rattle.clausetext.specs.declared.judge.Verdict.TheVariants.{Wrong, Fine}
 use Rattle.tptp.specs.declared.TextRead.{TextRead}
 use Rattle.text.specs.Put.{Put}
 use Rattle.text.specs.Quoted.{bytes}
@@ -16,11 +17,11 @@ use Rattle.assistant.specs.Results.{szs_text}
 use Rattle.answering.specs.Refusing.{counted, questions_in, Refusal, Refused}
 
 module _ (text : List ℕ) {v : Verdict} (is : v ≡ judged text) where
-  pub none_there : {place : ℕ} → v ≡ Wrong place → 0 ≡ questions_in text
+  pub none_there : {place : ℕ} → v ≡ Err place → 0 ≡ questions_in text
   unfolding questions_in
   none_there e = ap (λ (w : Verdict). counted w) (sym e ∙ is)
 
-  pub so_many : {clauses questions : ℕ} → v ≡ Fine clauses questions → questions ≡ questions_in text
+  pub so_many : {c : Counts} → v ≡ Ok c → c.questions ≡ questions_in text
   unfolding questions_in
   so_many e = ap (λ (w : Verdict). counted w) (sym e ∙ is)
 

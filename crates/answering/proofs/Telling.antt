@@ -1,7 +1,7 @@
 -- A result as it is told, one law for each outcome, with premises as the code has them.
 use mathlib.Core.Bool.{Bool, true, false}
 use mathlib.Core.List.{List, [], map}
-use mathlib.Core.Path.{◌≡◌, ap, ◌∙◌}
+use mathlib.Core.Path.{◌≡◌, sym, ap, ◌∙◌}
 use Prim.Native.Nat.{ℕ}
 use native.Mathlib.Omega.{arith}
 use borrow.Author.Tests.{eq-eqb, ne_eqb}
@@ -69,10 +69,10 @@ pub no_proof : {wanted : Bool} (ns : List Name) (steps : List ℕ) → wanted �
 unfolding proof_text
 no_proof ns steps e out at = rw e (finish (begin out at []))
 
-pub proof_cut : {wanted : Bool} (ns : List Name) (steps : List ℕ) → wanted ≡ true → {room page : List ℕ} {n : ℕ} → length room ≡ 262144 → Put room 0 (steps_text ns steps) page n
+pub proof_cut : {wanted : Bool} (ns : List Name) (steps : List ℕ) → wanted ≡ true → {room page : List ℕ} {n : ℕ} → 262144 ≡ length room → Put room 0 (steps_text ns steps) page n
     → {o₀ o₁ o₂ : List ℕ} {n₀ n₁ n₂ : ℕ} → Put o₀ n₀ (bytes "Proof:\n") o₁ n₁ → CutTo page n o₁ n₁ o₂ n₂ → Put o₀ n₀ (proof_text wanted ns steps) o₂ n₂
 unfolding proof_text
-proof_cut ns steps e {room} {page} {n} size w p c = rw e (then p (c.told room (steps_text ns steps) size w))
+proof_cut ns steps e {room} {page} {n} size w p c = rw e (then p (c.told room (steps_text ns steps) (sym size) w))
 
 -- all that is told of what was found
 pub page_cut : {whole : List ℕ} {room page : List ℕ} {n : ℕ} → length room ≡ 262144 → Put room 0 whole page n → {out : List ℕ} {at : ℕ} {out' : List ℕ} {r : ℕ}

@@ -6,6 +6,8 @@ use Prim.Native.Nat.{ℕ, zero, suc}
 use native.Mathlib.Omega.{arith}
 use lib.Dec.{eqb}
 use lib.ListN.{length, get_or}
+use Rattle.std.specs.Prelude.{Some, None}
+use Rattle.std.specs.Option.{option_eq}
 use Rattle.words.specs.Fields.{kind_of, number_of, symbol_of, arity_of}
 use Rattle.words.specs.Steps.{step_of}
 use Rattle.words.specs.declared.Step.{Step}
@@ -71,7 +73,7 @@ module _ (name : Name) (e : begins name ≡ true) where
   stands_same (n ∷ ns) [] h = none_stands (n ∷ ns) h
   stands_same (n ∷ ns) (m ∷ ms) h = rw (h 0, stands_same ns ms (λ k. h (suc k)))
 
-  none_only : (i : ℕ) (ns : List Name) → Alike ns [] → only_from i name ns ≡ 512
+  none_only : (i : ℕ) (ns : List Name) → Alike ns [] → only_from i name ns ≡ None
   unfolding only_from
   none_only i [] h = refl
   none_only i (n ∷ ns) h = rw (blank-head n (h 0)) (none_only (suc i) ns (λ k. h (suc k)))
@@ -88,7 +90,7 @@ module _ (ns ms : List Name) (h : Alike ns ms) where
   unfolding tells
   tells_same name i = go (begins name) refl
     where
-      go : (b : Bool) → begins name ≡ b → cond b (eqb (only_from 0 name ns) i) false ≡ cond b (eqb (only_from 0 name ms) i) false
+      go : (b : Bool) → begins name ≡ b → cond b (option_eq eqb (only_from 0 name ns) (Some i)) false ≡ cond b (option_eq eqb (only_from 0 name ms) (Some i)) false
       go true e = rw (only_same name e 0 ns ms h)
       go false e = refl
 

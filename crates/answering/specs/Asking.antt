@@ -1,7 +1,6 @@
 -- All that `ask` writes of a text whose file has a name.
-use Rattle.std.specs.Prelude.{List, [], ◌≡◌, ℕ, ◌≤◌, ◌<◌, length}
+use Rattle.std.specs.Prelude.{Err, List, [], ◌≡◌, ℕ, ◌≤◌, ◌<◌, length}
 use Rattle.table.specs.Encode.{file_words}
-use Rattle.clausetext.specs.declared.judge.Verdict.TheVariants.{Wrong}
 use Rattle.clausetext.specs.Syntax.{Clause}
 use Rattle.clausetext.specs.Texts.{Says, questions, Verdicts}
 use Rattle.tptp.specs.Said.{table_said}
@@ -28,7 +27,7 @@ pub data SaysOf (o : Options) (name text : List ℕ) (cs : List Clause) : List �
 -- A limit over 32; a text that is too long or goes wrong; else as its clauses are answered.
 pub data AskSays (o : Options) (name text : List ℕ) : List ℕ → Type 0 where
   unlimited : 32 < o.limit → AskSays o name text (bytes "The limit is over 32.\n")
-  wrong : {place : ℕ} → o.limit ≤ 32 → Verdicts text (Wrong place) → AskSays o name text (input_error name (wrong_text name text place))
+  wrong : {place : ℕ} → o.limit ≤ 32 → Verdicts text (Err place) → AskSays o name text (input_error name (wrong_text name text place))
   said : {cs : List Clause} {all : List ℕ} → o.limit ≤ 32 → length text ≤ 65536 → Says text cs → SaysOf o name text cs all → AskSays o name text all
 
 -- it is written from the front of the page, as far as there is room, and counted past its end

@@ -1,12 +1,10 @@
 -- Why a text is refused, in plain words, by the status of its reading (document 02, order 1).
-use Rattle.std.specs.Prelude.{List, [], ◌++◌, ◌≡◌, ℕ, ◌≤◌, length}
+use Rattle.std.specs.Prelude.{Ok, Err, List, [], ◌++◌, ◌≡◌, ℕ, ◌≤◌, length}
 use Rattle.text.specs.Quoted.{bytes}
 use Rattle.clausetext.specs.Judging.{judged}
-use Rattle.clausetext.specs.declared.judge.Verdict.{Verdict}
-use Rattle.clausetext.specs.declared.judge.Verdict.TheVariants.{Wrong, Fine}
 use Rattle.tptp.specs.declared.TextRead.{TextRead}
 use Rattle.clausetext.specs.Syntax.{Clause}
-use Rattle.clausetext.specs.Texts.{Says}
+use Rattle.clausetext.specs.Texts.{Verdict, counts, Says}
 use Rattle.text.specs.Put.{Put}
 use Rattle.limits.specs.Over.{first_over}
 use Rattle.limits.specs.Told.{over_text, Told}
@@ -15,8 +13,8 @@ use Rattle.assistant.specs.Results.{szs_text}
 
 -- the questions of a text, 0 where it goes wrong
 abbrev pub counted : Verdict → ℕ
-counted (Wrong place) = 0
-counted (Fine clauses questions) = questions
+counted (Err place) = 0
+counted (Ok counts) = counts.questions
 
 unfoldable pub questions_in : List ℕ → ℕ
 questions_in text = counted (judged text)

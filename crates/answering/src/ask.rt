@@ -7,9 +7,11 @@ ghost use Rattle.answering.specs.Telling.{Answered};
 
 use crate::{Options, look, refuse, rooms, tell};
 use assistant::result;
+use hukolearu::calls;
 use text::{part, put};
 use tptp::TextRead;
 use words::fields::wide;
+use words::room;
 
 fn refused(name: &[u8], text: &[u8], read: TextRead, out: &mut [u8]) -> usize
     ensures { Refused name.now text.now read out.old out.new result }
@@ -31,9 +33,9 @@ fn answer(
     requires { ((judge file.now).status ≡ 0) × (o.limit ≤ 32) }
     ensures { Answered o name.now text.now file.now out.old out.new result }
 {
-    let mut proof = rooms::proof();
-    let mut words = rooms::answer();
-    let mut work = rooms::file();
+    let mut proof: [u32; calls::LONGEST_PROOF] = room::filled(0);
+    let mut words: [u32; rooms::ANSWER] = room::filled(0);
+    let mut work: [u32; rooms::FILE] = room::filled(0);
     let l = look::look(
         rt, watched, file, o.limit, o.budget, &mut proof, &mut words, &mut work,
     );
@@ -66,7 +68,7 @@ pub fn ask(
     if 32 < o.limit {
         return put::bytes(out, 0, b"The limit is over 32.\n");
     }
-    let mut file = rooms::file();
+    let mut file: [u32; rooms::FILE] = room::filled(0);
     let read = tptp::call::read(text, &mut file);
     if read.status != 0 {
         return refused(name, text, read, out);

@@ -28,15 +28,12 @@ fn lines(
     ensures { Put out.old from (used_text (names_at text.now places.now) copies.now question) out.new result }
 {
     let mut at = from;
-    let mut number = 0;
-    while number < question {
-        let this = number;
-        let used = copies[this];
-        number += 1;
+    for number in 0..question {
+        let used = copies[number];
         if used == 0 {
             continue;
         }
-        at = result::behind(out, at, lookup::name(text, places, this), used);
+        at = result::behind(out, at, lookup::name(text, places, number), used);
     }
     result::behind(
         out,

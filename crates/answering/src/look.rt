@@ -49,16 +49,14 @@ pub fn look(
     requires { Searchable file.now limit proof.old answer.old work.old }
     ensures { Tells (looked file.now limit budget) result proof.old proof.new answer.old answer.new }
 {
-    let mut bound = 0;
     let mut used = 0;
-    while bound < limit {
+    for bound in 0..limit {
         let last = at_bound(file, bound, budget, used, proof, answer, work);
         if last.outcome.status != status::NONE_FOUND {
             return last;
         }
         used = last.tries;
         progress::tell(rt, watched, bound, used);
-        bound += 1;
     }
-    at_bound(file, bound, budget, used, proof, answer, work)
+    at_bound(file, limit, budget, used, proof, answer, work)
 }

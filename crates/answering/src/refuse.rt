@@ -3,18 +3,18 @@ ghost use Rattle.std.specs.Prelude.{◌≡◌};
 ghost use Rattle.answering.specs.Refusing.{questions_in, Refusal};
 
 use assistant::refusal;
-use clausetext::judge::{Verdict, judge_text};
+use clausetext::judge::judge_text;
 use tptp::TextRead;
 use words::fields::wide;
 
 // How many questions a text has; 0 where it goes wrong.
+#[tactic(auto, using(crate::proofs::Refusing::question_laws))]
 fn questions(text: &[u8]) -> usize
     ensures { result ≡ questions_in text.now }
 {
-    let verdict = judge_text(text);
-    match verdict {
-        Verdict::Wrong(_) => 0,
-        Verdict::Fine(_, questions) => questions,
+    match judge_text(text) {
+        Ok(counts) => counts.questions,
+        Err(_) => 0,
     }
 }
 

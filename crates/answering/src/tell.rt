@@ -14,12 +14,13 @@ use hukolearu::status;
 use naming::show;
 use text::{part, put};
 use words::fields::wide;
+use words::room;
 
 // A page that was written, cut at its end with a mark.
 pub fn cut(page: &[u8], n: usize, out: &mut [u8], at: usize) -> usize
     ensures { CutTo page.now n out.old at out.new result }
 {
-    let next = put::bytes(out, at, part::front_bytes(page, n));
+    let next = put::bytes(out, at, part::front(page, n));
     if page.len() < n {
         return put::bytes(out, next, b" ...\n");
     }
@@ -59,7 +60,7 @@ fn proof(
     if !wanted {
         return at;
     }
-    let mut page = rooms::page();
+    let mut page: [u8; rooms::PAGE] = room::filled(0);
     let n = written_proofs::write::proof(text, places, steps, &mut page, 0);
     let next = put::bytes(out, at, b"Proof:\n");
     cut(&page, n, out, next)
@@ -78,7 +79,7 @@ fn answer_page(
     requires { Wordable index.now file.now × (length words.now ≤ 4096) }
     ensures { Put out.old at (paged (answer_text (words_in text.now index.now file.now) l.bound l.tries l.outcome.disjuncts words.now)) out.new result }
 {
-    let mut page = rooms::page();
+    let mut page: [u8; rooms::PAGE] = room::filled(0);
     let n = answer(text, index, file, l, words, &mut page);
     cut(&page, n, out, at)
 }
@@ -133,7 +134,7 @@ fn lines(
     ensures { Put out.old at (lines_text name.now (words_in text.now index.now file.now) disjuncts words.now) out.new result }
 {
     let next = result::szs(out, at, b"Unsatisfiable", name);
-    let mut page = rooms::page();
+    let mut page: [u8; rooms::PAGE] = room::filled(0);
     let n = answers(name, text, index, file, disjuncts, words, &mut page);
     cut(&page, n, out, next)
 }
@@ -174,7 +175,7 @@ fn found_in(
     requires { Holds file.now steps.now words.now }
     ensures { FoundIn wanted name.now text.now file.now l steps.now words.now out.old at out.new result }
 {
-    let mut index = rooms::index();
+    let mut index: [u32; rooms::INDEX] = room::filled(0);
     naming::index::index(text, &mut index);
     found(wanted, name, text, &index, file, l, steps, words, out, at)
 }

@@ -11,8 +11,7 @@ use Rattle.unification.specs.Places.{most_references}
 use Rattle.unification.specs.State.{start_at, copies_of, own_words, ClauseAt, Points}
 use Rattle.unification.specs.Good.{word_at, arguments_of, Ahead, Inside, Good, FollowedTo}
 use Rattle.answers.specs.Writing.{items_by_kind, word_items, words_items, resolved, term_items, copy_items, kept_at, kept_items, answer_held, Counted, WordStands}
-use Rattle.answers.specs.declared.answer.Room.{Room}
-use Rattle.answers.specs.declared.answer.Room.TheVariants.{Left, Over}
+use Rattle.std.specs.Prelude.{Option, Some, None}
 use Rattle.unification.proofs.References.{few, step_points}
 use Rattle.unification.proofs.Walk.{inside, small}
 use Rattle.answers.proofs.Items.{items_some}
@@ -37,33 +36,33 @@ word_one σ copy w n = go (kind_of w) n
     go (suc k) n = refl
 
 -- one word more
-counted_one : (room needed : ℕ) (r : Room) → (room ≡ 0 → ⊥) → Counted (room - 1) needed r → Counted room (suc needed) r
-counted_one room needed (Left n) s c = omega arith
-counted_one room needed Over s c = omega arith
+counted_one : (room needed : ℕ) (r : Option ℕ) → (room ≡ 0 → ⊥) → Counted (room - 1) needed r → Counted room (suc needed) r
+counted_one room needed (Some n) s c = omega arith
+counted_one room needed None s c = omega arith
 
 -- the room after a word
 module _ {f m : List ℕ} {at w : ℕ} (h : Good f m) (s : WordStands f m at w) where
-  pub room_none : {room : ℕ} → room ≡ 0 → Counted room (length (word_items (resolved f m) (at / 256) w)) Over
+  pub room_none : {room : ℕ} → room ≡ 0 → Counted room (length (word_items (resolved f m) (at / 256) w)) None
   room_none {room} e = omega (arith, word_some (resolved f m) (at / 256) w)
 
   pub word_points : {k : ℕ} → k ≡ kind_of w → k ≡ 0 → Points f m at 1
   word_points ek z = s.points (sym ek ∙ z)
 
   module _ {room : ℕ} (some : room ≡ 0 → ⊥) {k : ℕ} (ek : k ≡ kind_of w) where
-    pub room_fixed : (k ≡ 0 → ⊥) → Counted room (length (word_items (resolved f m) (at / 256) w)) (Left (room - 1))
+    pub room_fixed : (k ≡ 0 → ⊥) → Counted room (length (word_items (resolved f m) (at / 256) w)) (Some (room - 1))
     room_fixed n = omega (arith, word_one (resolved f m) (at / 256) w (λ e. n (ek ∙ e)))
 
     module _ (z : k ≡ 0) where
       -- a variable that was followed
       module _ {q : ℕ} (g : FollowedTo f m at q) {met : ℕ} (em : met ≡ word_at f m q) {k' : ℕ} (ek' : k' ≡ kind_of met) where
-        pub room_free : k' ≡ 0 → Counted room (length (word_items (resolved f m) (at / 256) w)) (Left (room - 1))
+        pub room_free : k' ≡ 0 → Counted room (length (word_items (resolved f m) (at / 256) w)) (Some (room - 1))
         room_free z' = omega (arith, ap length (stands_free h s (sym ek ∙ z) g em (sym ek' ∙ z')))
 
         module _ (n : k' ≡ 0 → ⊥) {a : ℕ} (ea : a ≡ arity_of met) where
           pub room_ahead : Ahead f m (q + 1) a
           room_ahead = rw ea (stands_ahead h s (sym ek ∙ z) g em (λ y. n (ek' ∙ y)))
 
-          pub room_function : (r : Room) → Counted (room - 1) (length (term_items f m (q + 1) a)) r → Counted room (length (word_items (resolved f m) (at / 256) w)) r
+          pub room_function : (r : Option ℕ) → Counted (room - 1) (length (term_items f m (q + 1) a)) r → Counted room (length (word_items (resolved f m) (at / 256) w)) r
           room_function r c =
               rw (ap length (stands_function h s (sym ek ∙ z) g em (λ y. n (ek' ∙ y))))
               (counted_one room (length (term_items f m (q + 1) (arity_of met))) r some (rw ea at c))
@@ -112,7 +111,7 @@ module _ {f m : List ℕ} {reference count room : ℕ} (h : Good f m) where
   counting_begin a = record { ahead = a; same = refl; less = omega arith }
 
   module _ {at left owed : ℕ} (g : Counting f m reference count room at left owed) where
-    pub counting_done : owed ≡ 0 → Counted room (length (term_items f m reference count)) (Left left)
+    pub counting_done : owed ≡ 0 → Counted room (length (term_items f m reference count)) (Some left)
     counting_done e =
         let z : length (term_items f m at owed) ≡ 0 = ap (λ (k : ℕ). length (term_items f m at k)) e ∙ ap length (no_items f m at) in
         omega (arith, g.same)
@@ -122,12 +121,12 @@ module _ {f m : List ℕ} {reference count room : ℕ} (h : Good f m) where
           → length (term_items f m at owed) ≡ length (word_items (resolved f m) (at / 256) w) + length (term_items f m (at + 1) o)
       lengths eo = ap length (owed_items h g.ahead some ew eo) ∙ length-append (word_items (resolved f m) (at / 256) w) _
 
-      module _ (r : Room) (c : Counted left (length (word_items (resolved f m) (at / 256) w)) r) where
-        pub counting_over : r ≡ Over → Counted room (length (term_items f m reference count)) Over
+      module _ (r : Option ℕ) (c : Counted left (length (word_items (resolved f m) (at / 256) w)) r) where
+        pub counting_over : r ≡ None → Counted room (length (term_items f m reference count)) None
         counting_over e =
             let l : left < length (word_items (resolved f m) (at / 256) w) = rw e at c in omega (arith, lengths refl, g.same)
 
-        pub counting_on : {n : ℕ} → r ≡ Left n → {o : ℕ} → o ≡ owed - 1 + arguments_of (kind_of w) w → Counting f m reference count room (at + 1) n o
+        pub counting_on : {n : ℕ} → r ≡ Some n → {o : ℕ} → o ≡ owed - 1 + arguments_of (kind_of w) w → Counting f m reference count room (at + 1) n o
         counting_on {n} e eo =
             let l : n + length (word_items (resolved f m) (at / 256) w) ≡ left = rw e at c in
             record { ahead = owed_ahead h g.ahead some ew eo; same = omega (arith, lengths eo, g.same); less = omega (arith, g.less) }
@@ -144,7 +143,7 @@ module _ {f m : List ℕ} {copy : ℕ} (h : Good f m) (c : copy < copies_of m) w
   copy_begin e k = record { whole = copy_count h c e k; reached = copy_reached h c; same = refl }
 
   module _ {count room i left : ℕ} (g : CountingCopy f m copy count room i left) where
-    pub copy_done : count < i → Counted room (length (copy_items f m copy)) (Left left)
+    pub copy_done : count < i → Counted room (length (copy_items f m copy)) (Some left)
     unfolding words_items
     copy_done l =
         let b : length (own_words f (start_at m copy)) ≤ i = omega (arith, g.whole) in
@@ -158,9 +157,6 @@ module _ {f m : List ℕ} {copy : ℕ} (h : Good f m) (c : copy < copies_of m) w
       pub copy_word : Inside f m (copy * 256 + i)
       copy_word = offset_inside h c g.reached inside-own
 
-      pub copy_small : copy * 256 + i < most_references
-      copy_small = offset_small h c g.reached inside-own
-
       module _ {w : ℕ} (ew : w ≡ word_at f m (copy * 256 + i)) where
         pub copy_stands : WordStands f m (copy * 256 + i) w
         copy_stands = offset_stands h c g.reached inside-own ew
@@ -170,12 +166,12 @@ module _ {f m : List ℕ} {copy : ℕ} (h : Good f m) (c : copy < copies_of m) w
         copy-lengths =
             ap length (offset_items h c g.reached inside-own ew (resolved f m)) ∙ length-append (word_items (resolved f m) ((copy * 256 + i) / 256) w) _
 
-        module _ (r : Room) (k : Counted left (length (word_items (resolved f m) ((copy * 256 + i) / 256) w)) r) where
-          pub copy_over : r ≡ Over → Counted room (length (copy_items f m copy)) Over
+        module _ (r : Option ℕ) (k : Counted left (length (word_items (resolved f m) ((copy * 256 + i) / 256) w)) r) where
+          pub copy_over : r ≡ None → Counted room (length (copy_items f m copy)) None
           copy_over e =
               let o : left < length (word_items (resolved f m) ((copy * 256 + i) / 256) w) = rw e at k in omega (arith, copy-lengths, g.same)
 
-          pub copy_on : {n : ℕ} → r ≡ Left n → CountingCopy f m copy count room (i + 1) n
+          pub copy_on : {n : ℕ} → r ≡ Some n → CountingCopy f m copy count room (i + 1) n
           copy_on {n} e =
               let o : n + length (word_items (resolved f m) ((copy * 256 + i) / 256) w) ≡ left = rw e at k in
               record { whole = g.whole; reached = offset_reached h c g.reached inside-own; same = omega (arith, copy-lengths, g.same) }
@@ -191,7 +187,7 @@ module _ {f m : List ℕ} (h : Good f m) where
   all_begin = record { passed = omega arith; same = omega arith }
 
   module _ {room copy left : ℕ} (g : CountingAll f m room copy left) where
-    pub all_done : copies_of m ≤ copy → Counted room (length (answer_held f m)) (Left left)
+    pub all_done : copies_of m ≤ copy → Counted room (length (answer_held f m)) (Some left)
     all_done l =
         let z : copy ≡ copies_of m = omega (arith, g.passed) in omega (arith, answer_length h, rw z at g.same)
 
@@ -201,45 +197,16 @@ module _ {f m : List ℕ} (h : Good f m) where
           let k : kept_at m copy ≡ 0 = rw e at n in
           record { passed = omega arith; same = rw add-one (omega (arith, g.same, ap length (kept_other f m copy k))) }
 
-      module _ {w : ℕ} (e : w ≡ copy) (z : kept_at m w ≡ 0 → ⊥) (r : Room) (k : Counted left (length (copy_items f m copy)) r) where
+      module _ {w : ℕ} (e : w ≡ copy) (z : kept_at m w ≡ 0 → ⊥) (r : Option ℕ) (k : Counted left (length (copy_items f m copy)) r) where
         one_more : length (kept_items f m (suc copy)) ≡ length (kept_items f m copy) + length (copy_items f m copy)
         one_more = ap length (kept_there f m copy (λ y. z (ap (kept_at m) e ∙ y))) ∙ length-append (kept_items f m copy) _
 
-        pub all_over : r ≡ Over → Counted room (length (answer_held f m)) Over
+        pub all_over : r ≡ None → Counted room (length (answer_held f m)) None
         all_over y =
             let o : left < length (copy_items f m copy) = rw y at k in
             omega (arith, answer_length h, one_more, items_grow f m (suc copy) (copies_of m) (omega arith), g.same)
 
-        pub all_on : {n : ℕ} → r ≡ Left n → CountingAll f m room (copy + 1) n
+        pub all_on : {n : ℕ} → r ≡ Some n → CountingAll f m room (copy + 1) n
         all_on {n} y =
             let o : n + length (copy_items f m copy) ≡ left = rw y at k in
             record { passed = omega arith; same = rw add-one (omega (arith, one_more, g.same)) }
-
--- the room against what is needed
-module _ (room needed : ℕ) (r : Room) (c : Counted room needed r) where
-  pub counted_fits : {n : ℕ} → r ≡ Left n → needed ≤ room
-  counted_fits {n} e = let z : n + needed ≡ room = rw e at c in omega arith
-
-  pub counted_over : r ≡ Over → room < needed
-  counted_over e = rw e at c
-
-pub ruleset counting_laws = (
-  room_none,
-  room_fixed,
-  room_free,
-  room_ahead,
-  room_function,
-  counting_begin,
-  counting_done,
-  counting_over,
-  counting_on,
-  copy_begin,
-  copy_done,
-  copy_over,
-  copy_on,
-  all_begin,
-  all_done,
-  all_other,
-  all_over,
-  all_on,
-)

@@ -26,8 +26,9 @@ use Rattle.rules.proofs.Unify.Tests.{decide, never}
 use Rattle.unification.specs.Places.{most_references, value_end, kept_places, count_place, work_words, most_copies, copies_place}
 use Rattle.unification.specs.State.{start_at, copies_of, count_of, own_words, literal_at_reference, bindings_of, bindings_in}
 use Rattle.unification.specs.Good.{word_at, Inside, Same, Good, Alike, Outcome, Met, Undone}
-use Rattle.unification.specs.declared.unify.Meeting.{Meeting}
-use Rattle.unification.specs.declared.unify.Meeting.TheVariants.{Made, Clash, Circle}
+use Rattle.unification.specs.declared.unify.Unmet.{Unmet}
+use Rattle.unification.specs.declared.unify.Unmet.TheVariants.{Clash, Circle}
+use Rattle.std.specs.Prelude.{Result, Ok, Err}
 use Rattle.unification.proofs.Push.{same_none, same_then}
 use Rattle.tableaux.specs.Leaves.{questions_among}
 use Rattle.answers.specs.Writing.{resolved, kept_at, kept_among, disjunct_at, disjuncts_kept}
@@ -59,7 +60,7 @@ unfolding bindings_of
 bindings_length f m zero = refl
 bindings_length f m (suc n) = ap suc (bindings_length f m n)
 
-module _ {f m : List ℕ} {l r : ℕ} (h : Good f m) (a : Alike f m l r) {m₁ m' : List ℕ} {met : Meeting}
+module _ {f m : List ℕ} {l r : ℕ} (h : Good f m) (a : Alike f m l r) {m₁ m' : List ℕ} {met : Result (Unit {0}) Unmet}
     (q : Met f m m₁ met (unify (bindings_in f m) (atom (literal_at_reference f m l)) (atom (literal_at_reference f m r)))) (u : Undone f m₁ m' (count_of m)) where
   abbrev here : Literal Variable
   here = literal_at_reference f m l
@@ -81,19 +82,18 @@ module _ {f m : List ℕ} {l r : ℕ} (h : Good f m) (a : Alike f m l r) {m₁ m
   equation : same_literal (said_at f m l) (said_at f m r) ≡ true → under (resolved f m) (atom here) ≡ under (resolved f m) (atom there)
   equation e = equal_said (resolved f m) here there (literal_equal (said_at f m l) (said_at f m r) e)
 
-  not_made : (k : Meeting) → met ≡ k → (k ≡ Made → ⊥) → same_literal (said_at f m l) (said_at f m r) ≡ true → ⊥
-  not_made Made e n s = n refl
-  not_made Clash e n s =
+  not_made : (e : Unmet) → met ≡ Err e → same_literal (said_at f m l) (said_at f m r) ≡ true → ⊥
+  not_made Clash e s =
       answers.clashes (rw e at q.outcome) (solution (bindings_in f m)) (solution_satisfies (bindings_in f m) h.sound) (equation s)
-  not_made Circle e n s =
+  not_made Circle e s =
       answers.circles (rw e at q.outcome) (solution (bindings_in f m)) (solution_satisfies (bindings_in f m) h.sound) (equation s)
 
   -- they cannot be made equal
-  pub atoms_apart : (met ≡ Made → ⊥) → Compared f m m' false (same_literal (said_at f m l) (said_at f m r))
-  atoms_apart n = record { still = still; outcome = not_so _ (not_made met refl n) }
+  pub atoms_apart : {e : Unmet} → met ≡ Err e → Compared f m m' false (same_literal (said_at f m l) (said_at f m r))
+  atoms_apart {e} is = record { still = still; outcome = not_so _ (not_made e is) }
 
   -- something was bound to make them equal
-  pub atoms_bound : met ≡ Made → (count_of m₁ ≡ count_of m → ⊥) → Compared f m m' false (same_literal (said_at f m l) (said_at f m r))
+  pub atoms_bound : met ≡ Ok tt → (count_of m₁ ≡ count_of m → ⊥) → Compared f m m' false (same_literal (said_at f m l) (said_at f m r))
   atoms_bound e n =
       let o : unify (bindings_in f m) (atom here) (atom there) ≡ made (bindings_in f m₁) = rw e at q.outcome in
       record {
@@ -105,7 +105,7 @@ module _ {f m : List ℕ} {l r : ℕ} (h : Good f m) (a : Alike f m l r) {m₁ m
       }
 
   -- nothing was
-  pub atoms_same : met ≡ Made → count_of m₁ ≡ count_of m → Compared f m m' true (same_literal (said_at f m l) (said_at f m r))
+  pub atoms_same : met ≡ Ok tt → count_of m₁ ≡ count_of m → Compared f m m' true (same_literal (said_at f m l) (said_at f m r))
   atoms_same e n =
       let o : unify (bindings_in f m) (atom here) (atom there) ≡ made (bindings_in f m₁) = rw e at q.outcome in
       let same : bindings_in f m₁ ≡ bindings_in f m = ap (bindings_of f m₁) n ∙ q.grown.older (count_of m) (omega arith) in
@@ -183,9 +183,6 @@ pub record Comparing (f m₀ m : List ℕ) (copy other count i : ℕ) : Type 0 w
   pub same : same_disjunct (disjunct_at f m₀ copy) (disjunct_at f m₀ other) ≡ same_rest (resolved f m₀) copy other (drop i (own_words f (start_at m₀ copy)))
 
 module _ {f m₀ : List ℕ} {copy other : ℕ} (t : Twins f m₀ copy other) where
-  pub comparing_inside : Inside f m₀ (copy * 256)
-  comparing_inside = copy_inside t.good t.made
-
   pub comparing_begin : {w : ℕ} → w ≡ word_at f m₀ (copy * 256) → {count : ℕ} → count ≡ following_of w → Comparing f m₀ m₀ copy other count 1
   unfolding disjunct copy_of same_rest clause_of
   comparing_begin e k = record {
@@ -233,12 +230,6 @@ module _ {f m₀ : List ℕ} {copy other : ℕ} (t : Twins f m₀ copy other) wh
 
       pub comparing_word : Inside f m (copy * 256 + i)
       comparing_word = offset_inside g.still.good own-made own_reached own_within
-
-      pub comparing_small : copy * 256 + i < most_references
-      comparing_small = offset_small g.still.good own-made own_reached own_within
-
-      pub comparing_small_too : other * 256 + i < most_references
-      comparing_small_too = offset_small g.still.good twin-made twin_reached twin_within
 
       -- the word there, in the file
       abbrev word : ℕ
@@ -321,9 +312,6 @@ pub record Looking (f m₀ m : List ℕ) (copy earlier : ℕ) : Type 0 where
   pub same : said_before f m₀ copy ≡ seen_by same_disjunct (disjunct_at f m₀ copy) (map (disjunct_at f m₀) (kept_among m₀ earlier))
 
 module _ {f m₀ : List ℕ} {copy : ℕ} (x : Next f m₀ (start_at m₀ copy) copy) where
-  pub looking_begin : Looking f m₀ m₀ copy copy
-  looking_begin = record { still = still_none x.good; low = omega arith; same = refl }
-
   copy-low : copy < most_copies
   copy-low = omega (arith, x.made, x.good.copies)
 
@@ -335,9 +323,6 @@ module _ {f m₀ : List ℕ} {copy : ℕ} (x : Next f m₀ (start_at m₀ copy) 
           still = g.still;
           outcome = sym (g.same ∙ ap (λ (n : ℕ). seen_by same_disjunct (disjunct_at f m₀ copy) (map (disjunct_at f m₀) (kept_among m₀ n))) z);
         }
-
-    pub looking_size : length m ≡ work_words
-    looking_size = g.still.good.size
 
     module _ (some : earlier ≡ 0 → ⊥) where
       abbrev k : ℕ
@@ -362,14 +347,6 @@ module _ {f m₀ : List ℕ} {copy : ℕ} (x : Next f m₀ (start_at m₀ copy) 
       module _ {w : ℕ} (ew : w ≡ earlier - 1) (nw : kept_at m w ≡ 0 → ⊥) where
         n : kept_at m k ≡ 0 → ⊥
         n z = nw (ap (kept_at m) ew ∙ z)
-
-        pub looking_twins : Twins f m copy (earlier - 1)
-        looking_twins = record {
-          good = g.still.good;
-          made = rw (still-copies g.still) x.made;
-          also_made = rw (still-copies g.still) (omega (arith, x.made, g.low));
-          same = rw (still-start g.still k_low, still-start g.still copy-low) (x.own k (omega (arith, g.low)) (λ z. n (kept_is ∙ z)));
-        }
 
         one_more : said_before f m₀ copy ≡ seen_by same_disjunct (disjunct_at f m₀ copy) (map (disjunct_at f m₀) (kept_among m₀ k) ++ (disjunct_at f m₀ k ∷ []))
         one_more =
@@ -489,9 +466,6 @@ module _ {f m₀ : List ℕ} {question : ℕ} (h : Good f m₀) where
         }
 
     module _ (l : n < copies_of m₀) where
-      pub choosing_next : Next f m question n
-      choosing_next = record { good = g.good; made = rw copies_now l; own = g.own }
-
       n_low : n < most_copies
       n_low = omega (arith, h.copies)
 

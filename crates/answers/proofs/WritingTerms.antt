@@ -173,9 +173,6 @@ module _ {f m₀ a₀ : List ℕ} {s₀ : Written} {copy : ℕ} where
       pub copy_writes_inside : Inside f m (copy * 256 + i)
       copy_writes_inside = offset_inside g.good g.made g.reached within
 
-      pub copy_writes_small : copy * 256 + i < most_references
-      copy_writes_small = offset_small g.good g.made g.reached within
-
       module _ {w : ℕ} (ew : w ≡ word_at f m (copy * 256 + i)) where
         pub copy_writes_stands : WordStands f m (copy * 256 + i) w
         copy_writes_stands = offset_stands g.good g.made g.reached within ew

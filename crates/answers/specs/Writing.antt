@@ -1,5 +1,5 @@
 -- Machinery: an answer as a list of words whose variables have no number yet, how it is counted and how it is written. No public contract speaks of it.
-use Rattle.std.specs.Prelude.{eqb, length, drop, get_or, false, cond, List, [], ◌∷◌, ◌++◌, map, ◌≡◌, ℕ, zero, suc, ◌+◌, ◌*◌, ◌-◌, ◌^◌, min, ◌≤◌, ◌<◌}
+use Rattle.std.specs.Prelude.{eqb, length, drop, get_or, false, cond, List, [], ◌∷◌, ◌++◌, map, Option, Some, None, ◌≡◌, ℕ, zero, suc, ◌+◌, ◌*◌, ◌-◌, ◌^◌, min, ◌≤◌, ◌<◌}
 use Rattle.std.proofs.lemmas.List.Edits.{sets}
 use Rattle.words.specs.Fields.{kind_of, number_of, symbol_of, arity_of, sign_of, variable_word, function_word, literal_word}
 use Rattle.table.specs.Syntax.{Term, Terms, var, app, nil, ◌then◌, arity, unders, Literal}
@@ -11,8 +11,6 @@ use Rattle.rules.specs.Answer.{disjunct, seen, place_of, numbered, joined}
 use Rattle.unification.specs.Places.{most_variables, number_places, kept_places, work_words}
 use Rattle.unification.specs.State.{start_at, copies_of, numbered_at, own_words, terms_of, Points, variable_of, bindings_in}
 use Rattle.unification.specs.Good.{word_at, Same}
-use Rattle.answers.specs.declared.answer.Room.{Room}
-use Rattle.answers.specs.declared.answer.Room.TheVariants.{Left, Over}
 use Rattle.answers.specs.declared.answer.Written.{Written}
 use Rattle.answers.specs.declared.answer.Answer.{Answer}
 
@@ -110,9 +108,9 @@ abbrev pub answer_held : List ℕ → List ℕ → List ℕ
 answer_held f m = words_of (disjuncts_kept f m)
 
 -- so many words fit, and so much room is left; or they do not
-abbrev pub Counted : ℕ → ℕ → Room → Type 0
-Counted room needed (Left n) = n + needed ≡ room
-Counted room needed Over = room < needed
+abbrev pub Counted : ℕ → ℕ → Option ℕ → Type 0
+Counted room needed (Some n) = n + needed ≡ room
+Counted room needed None = room < needed
 
 -- a word of a copy's literals stands at a reference: a term's, or a literal's
 pub record WordStands (f m : List ℕ) (r w : ℕ) : Type 0 where

@@ -9,12 +9,6 @@ ghost use Rattle.answers.specs.Writing.{Counted, WordStands, RoomFor, Wrote, Unm
 use unification::{memory, terms};
 use words::fields;
 
-#[derive(Clone, Copy)]
-pub enum Room {
-    Left(usize),
-    Over,
-}
-
 // How much of the answer is written, and how many variables are numbered.
 #[derive(Clone, Copy)]
 pub struct Written {
@@ -31,27 +25,31 @@ pub struct Answer {
 
 // The room left after a word of a copy's literals: a variable stands for what it is bound to.
 #[cycle(room_after_terms_room_after_word)]
-fn room_after_word(file: &[u32], work: &[u32], at: u32, word: u32, room: usize) -> Room
+fn room_after_word(file: &[u32], work: &[u32], at: u32, word: u32, room: usize) -> Option<usize>
     requires { Good file.now work.now × WordStands file.now work.now at word }
     ensures { Counted room (length (word_items (resolved file.now work.now) (at / 256) word)) result }
 {
-    if room == 0 {
-        return Room::Over;
-    }
+    let left = room.checked_sub(1)?;
     if fields::kind(word) != 0 {
-        return Room::Left(room - 1);
+        return Some(left);
     }
     let r = terms::follow(file, work, at);
     let met = memory::word_at(file, work, r);
     if fields::kind(met) == 0 {
-        return Room::Left(room - 1);
+        return Some(left);
     }
-    room_after_terms(file, work, r + 1, fields::arity(met), room - 1)
+    room_after_terms(file, work, r + 1, fields::arity(met), left)
 }
 
 // The room left after so many terms from a reference on.
 #[cycle(room_after_terms_room_after_word)]
-fn room_after_terms(file: &[u32], work: &[u32], reference: u32, count: u32, room: usize) -> Room
+fn room_after_terms(
+    file: &[u32],
+    work: &[u32],
+    reference: u32,
+    count: u32,
+    room: usize,
+) -> Option<usize>
     requires { Good file.now work.now × Ahead file.now work.now reference count }
     ensures { Counted room (length (term_items file.now work.now reference count)) result }
 {
@@ -60,60 +58,42 @@ fn room_after_terms(file: &[u32], work: &[u32], reference: u32, count: u32, room
     let mut owed = count;
     while owed != 0 {
         let word = memory::word_at(file, work, at);
-        let after = room_after_word(file, work, at, word, left);
-        let Room::Left(n) = after else {
-            return Room::Over;
-        };
-        left = n;
+        left = room_after_word(file, work, at, word, left)?;
         owed = terms::owed_after(owed, word);
         at += 1;
     }
-    Room::Left(left)
+    Some(left)
 }
 
 // The room left after a copy.
-fn room_after_copy(file: &[u32], work: &[u32], copy: u32, room: usize) -> Room
+fn room_after_copy(file: &[u32], work: &[u32], copy: u32, room: usize) -> Option<usize>
     requires { Good file.now work.now × (copy < copies_of work.now) }
     ensures { Counted room (length (copy_items file.now work.now copy)) result }
 {
     let own = copy * 256;
     let count = fields::following(memory::word_at(file, work, own));
     let mut left = room;
-    let mut i: u32 = 1;
-    while i <= count {
-        let at = own + i;
+    for offset in 1..count + 1 {
+        let at = own + offset;
         let word = memory::word_at(file, work, at);
-        let after = room_after_word(file, work, at, word, left);
-        let Room::Left(n) = after else {
-            return Room::Over;
-        };
-        left = n;
-        i += 1;
+        left = room_after_word(file, work, at, word, left)?;
     }
-    Room::Left(left)
+    Some(left)
 }
 
 // The room left after the answer.
-pub fn room_after(file: &[u32], work: &[u32], room: usize) -> Room
+pub fn room_after(file: &[u32], work: &[u32], room: usize) -> Option<usize>
     requires { Good file.now work.now }
     ensures { Counted room (length (answer_held file.now work.now)) result }
 {
-    let copies = work[memory::COPIES];
     let mut left = room;
-    let mut copy: u32 = 0;
-    while copy < copies {
+    for copy in 0..work[memory::COPIES] {
         if work[memory::KEPT + fields::wide(copy)] == 0 {
-            copy += 1;
             continue;
         }
-        let after = room_after_copy(file, work, copy, left);
-        let Room::Left(n) = after else {
-            return Room::Over;
-        };
-        left = n;
-        copy += 1;
+        left = room_after_copy(file, work, copy, left)?;
     }
-    Room::Left(left)
+    Some(left)
 }
 
 // One word more.
@@ -217,12 +197,10 @@ fn write_copy(
     let own = copy * 256;
     let count = fields::following(memory::word_at(file, work, own));
     let mut written = begun;
-    let mut offset: u32 = 1;
-    while offset <= count {
+    for offset in 1..count + 1 {
         let at = own + offset;
         let word = memory::word_at(file, work, at);
         written = write_word(file, work, answer, at, word, written);
-        offset += 1;
     }
     written
 }
@@ -233,21 +211,17 @@ pub fn write(file: &[u32], work: &mut [u32], answer: &mut [u32]) -> Answer
     requires work_in_bounds { (length (answer_held file.now work.old) ≤ length answer.old) × (length (answer_held file.now work.old) ≤ 4294967295) }
     ensures { Answered file.now work.old answer.old work.new answer.new result }
 {
-    let copies = work[memory::COPIES];
     let mut written = Written {
         words: 0,
         numbered: 0,
     };
     let mut disjuncts: u32 = 0;
-    let mut copy: u32 = 0;
-    while copy < copies {
+    for copy in 0..work[memory::COPIES] {
         if work[memory::KEPT + fields::wide(copy)] == 0 {
-            copy += 1;
             continue;
         }
         written = write_copy(file, work, answer, copy, written);
         disjuncts += 1;
-        copy += 1;
     }
     let words = written.words;
     Answer {

@@ -6,7 +6,6 @@ ghost use Rattle.unification.specs.Good.{Good, Alike};
 ghost use Rattle.answers.specs.Writing.{disjunct_at};
 ghost use Rattle.answers.specs.Repeats.{said_at, Compared, Twins, said_before, Next, Weighed, Chose};
 
-use unification::unify::Meeting;
 use unification::{memory, unify};
 use words::fields;
 
@@ -19,7 +18,7 @@ fn same_atom(file: &[u32], work: &mut [u32], left: u32, right: u32) -> bool
     let met = unify::meet_atoms(file, work, left, right);
     let bound = work[memory::COUNT];
     unify::undo(work, kept);
-    let Meeting::Made = met else {
+    let Ok(()) = met else {
         return false;
     };
     if bound != kept {
@@ -35,16 +34,13 @@ fn same_disjunct(file: &[u32], work: &mut [u32], copy: u32, other: u32) -> bool
 {
     let own = copy * 256;
     let count = fields::following(memory::word_at(file, work, own));
-    let mut offset: u32 = 1;
-    while offset <= count {
+    for offset in 1..count + 1 {
         if fields::kind(memory::word_at(file, work, own + offset)) != 2 {
-            offset += 1;
             continue;
         }
         if !same_atom(file, work, own + offset, other * 256 + offset) {
             return false;
         }
-        offset += 1;
     }
     true
 }
@@ -54,9 +50,7 @@ fn said_before(file: &[u32], work: &mut [u32], copy: u32) -> bool
     requires { Next file.now work.old (start_at work.old copy) copy }
     ensures { Compared file.now work.old work.new result (said_before file.now work.old copy) }
 {
-    let mut earlier = copy;
-    while earlier != 0 {
-        earlier -= 1;
+    for earlier in (0..copy).rev() {
         if work[memory::KEPT + fields::wide(earlier)] == 0 {
             continue;
         }
@@ -67,7 +61,7 @@ fn said_before(file: &[u32], work: &mut [u32], copy: u32) -> bool
     false
 }
 
-// 1 where a copy is kept: a copy of the question that says what no kept one before it says.
+// 1 where a copy is kept: a copy of the question that says what no kept one before it says. A number, since it goes into a work word.
 fn weigh(file: &[u32], work: &mut [u32], question: u32, copy: u32) -> u32
     requires { Next file.now work.old question copy }
     ensures { Weighed file.now work.old work.new question copy result }
@@ -86,11 +80,8 @@ pub fn choose(file: &[u32], work: &mut [u32], question: u32)
     requires { Good file.now work.old }
     ensures { Chose file.now work.old work.new question }
 {
-    let copies = work[memory::COPIES];
-    let mut copy: u32 = 0;
-    while copy < copies {
+    for copy in 0..work[memory::COPIES] {
         let kept = weigh(file, work, question, copy);
         work[memory::KEPT + fields::wide(copy)] = kept;
-        copy += 1;
     }
 }

@@ -1,21 +1,25 @@
 // The program's arguments: a command, its options, and the names of files last.
+ghost use Rattle.std.specs.Prelude.{◌≤◌};
+
 use crate::streams;
 use crate::streams::Stream;
 use requests::piece;
-use requests::piece::Number;
 use std::env::FillError;
 use std::io;
 use std::rt::Env;
 use text::part;
 
-// Limit and budget as they are asked, or else; whether the proof is to be written; whether the arguments are as they should be.
+// Limit and budget as they are asked, or else; whether the proof is to be written.
 #[derive(Clone, Copy)]
 pub struct Options {
     pub limit: u32,
     pub budget: u32,
     pub proof: bool,
-    pub good: bool,
 }
+
+const HIGHEST_LIMIT: u32 = 32;
+
+const BUDGET: u32 = 10_000_000;
 
 pub fn usage(rt: &HostRuntime) -> io::Result<()> {
     streams::write_all(
@@ -48,127 +52,87 @@ pub fn argument_count(rt: &HostRuntime) -> usize {
 pub fn is(rt: &HostRuntime, i: usize, text: &[u8]) -> bool {
     let mut space = [0u8; 4096];
     let n = argument(rt, i, &mut space);
-    piece::is(part::front_bytes(&space, n), 0, text)
+    piece::is(part::front(&space, n), 0, text)
 }
 
-pub fn number(rt: &HostRuntime, i: usize) -> Number {
+pub fn number(rt: &HostRuntime, i: usize) -> Option<u32> {
     let mut space = [0u8; 4096];
     let n = argument(rt, i, &mut space);
-    piece::decimal(part::front_bytes(&space, n), 0, b'\n')
+    let said = piece::decimal(part::front(&space, n), 0, b'\n')?;
+    Some(said.value)
 }
 
-// The argument after a name; 0 where the name is not among the arguments.
-fn following(rt: &HostRuntime, name: &[u8]) -> usize {
-    let count = argument_count(rt);
-    let mut i = 2;
-    while i < count {
+// The argument after a name, where that is among the arguments.
+fn following(rt: &HostRuntime, name: &[u8]) -> Option<usize> {
+    for i in 2..argument_count(rt) {
         if is(rt, i, name) {
-            return i + 1;
+            return Some(i + 1);
         }
-        i += 1;
     }
-    0
+    None
 }
 
-fn value(rt: &HostRuntime, at: usize, otherwise: u32) -> Number {
-    if at == 0 {
-        return Number::Value(otherwise, 0);
-    }
-    number(rt, at)
-}
-
-fn refused() -> Options {
-    Options {
-        limit: 0,
-        budget: 0,
-        proof: false,
-        good: false,
+fn value(rt: &HostRuntime, at: Option<usize>, otherwise: u32) -> Option<u32> {
+    match at {
+        Some(i) => number(rt, i),
+        None => Some(otherwise),
     }
 }
 
-// How many arguments an option makes that stands at a place: its name and its value.
-fn many(at: usize) -> usize {
-    if at == 0 {
-        return 0;
-    }
-    2
+// How many arguments an option makes that is given or not: its name and its value.
+fn many(at: Option<usize>) -> usize
+    ensures { result ≤ 2 }
+{
+    if at.is_some() { 2 } else { 0 }
 }
 
-fn counted(rt: &HostRuntime, limit: usize, budget: usize, proof: usize, files: usize) -> bool {
-    let mut left = argument_count(rt);
-    if left < 2 {
-        return false;
-    }
-    left -= 2;
-    if left < files {
-        return false;
-    }
-    left -= files;
-    let l = many(limit);
-    if left < l {
-        return false;
-    }
-    left -= l;
-    let b = many(budget);
-    if left < b {
-        return false;
-    }
-    left -= b;
-    if proof == 0 {
-        return left == 0;
-    }
-    left == 1
+// The program, the command, the options and the files, and nothing else.
+fn counted(
+    rt: &HostRuntime,
+    limit: Option<usize>,
+    budget: Option<usize>,
+    proof: Option<usize>,
+    files: u8,
+) -> bool {
+    let valued = many(limit) + many(budget);
+    let options = if proof.is_some() { valued + 1 } else { valued };
+    argument_count(rt) == 2 + options + usize::from(files)
 }
 
-// The options of a command that is given so many files.
-pub fn asked(rt: &HostRuntime, files: usize) -> Options {
+// The options of a command that is given so many files; none where the arguments are not as they should be.
+pub fn asked(rt: &HostRuntime, files: u8) -> Option<Options> {
     let limit_at = following(rt, b"--limit");
     let budget_at = following(rt, b"--budget");
     let proof_at = following(rt, b"--proof");
     if !counted(rt, limit_at, budget_at, proof_at, files) {
-        return refused();
+        return None;
     }
-    let limit_said = value(rt, limit_at, 32);
-    let Number::Value(limit, _) = limit_said else {
-        return refused();
-    };
-    let budget_said = value(rt, budget_at, 10_000_000);
-    let Number::Value(budget, _) = budget_said else {
-        return refused();
-    };
-    Options {
+    let limit = value(rt, limit_at, HIGHEST_LIMIT)?;
+    let budget = value(rt, budget_at, BUDGET)?;
+    if HIGHEST_LIMIT < limit {
+        return None;
+    }
+    Some(Options {
         limit,
         budget,
-        proof: proof_at != 0,
-        good: limit <= 32,
-    }
+        proof: proof_at.is_some(),
+    })
 }
 
 // The options of a command that is given a file and a proof.
-pub fn offered(rt: &HostRuntime) -> Options {
-    if following(rt, b"--budget") != 0 {
-        return refused();
-    }
-    if following(rt, b"--proof") != 0 {
-        return refused();
+pub fn offered(rt: &HostRuntime) -> Option<Options> {
+    if following(rt, b"--budget").is_some() || following(rt, b"--proof").is_some() {
+        return None;
     }
     asked(rt, 2)
 }
 
 // The last argument, which names a file.
-pub fn last(rt: &HostRuntime, space: &mut [u8]) -> usize {
-    let count = argument_count(rt);
-    if count == 0 {
-        return 0;
-    }
-    argument(rt, count - 1, space)
+pub fn last(rt: &HostRuntime) -> usize {
+    from_last(rt, 0)
 }
 
 // The argument before the last so many.
-pub fn from_last(rt: &HostRuntime, back: usize, space: &mut [u8]) -> usize {
-    let count = argument_count(rt);
-    if count <= back {
-        return 0;
-    }
-    argument(rt, count - 1 - back, space)
+pub fn from_last(rt: &HostRuntime, back: usize) -> usize {
+    argument_count(rt).saturating_sub(1).saturating_sub(back)
 }

@@ -1,30 +1,17 @@
 // Files read whole, as far as they are looked at: a byte more than a text may have.
-ghost use Rattle.std.specs.Prelude.{◌≡◌, length};
-
-use crate::streams;
 use crate::streams::Stream;
+use crate::{arguments, streams};
 use std::fs::File;
 use std::io::Read;
 use std::{fs, io};
+use text::part;
+use words::room;
 
-pub fn text_buffer() -> [u8; 65537]
-    ensures { 65537 ≡ length result }
-{
-    [0; 65537]
-}
+// The bytes of a text that are read: one more than it may have.
+pub const TEXT: usize = 65537;
 
-pub fn file_buffer() -> [u32; 16384]
-    ensures { 16384 ≡ length result }
-{
-    [0; 16384]
-}
-
-// How many bytes of a file were read, and whether it could be read; if not, a line on standard error says why.
-#[derive(Clone, Copy)]
-pub struct Got {
-    pub bytes: usize,
-    pub good: bool,
-}
+// The words of a file, and of a search's work.
+pub const FILE: usize = 16384;
 
 // Fills the text from a file, as far as either goes; how many bytes that is.
 fn read_full(file: &mut File, text: &mut [u8]) -> io::Result<usize> {
@@ -56,15 +43,31 @@ fn fail(rt: &HostRuntime, name: &[u8], error: io::Error) -> io::Result<()> {
     eprintln!(rt; ": {why}")
 }
 
-pub fn read(rt: &HostRuntime, name: &[u8], text: &mut [u8]) -> io::Result<Got> {
+// How many bytes of a file were read; if it could not be read, a line on standard error says why.
+pub fn read(rt: &HostRuntime, name: &[u8], text: &mut [u8]) -> io::Result<Option<usize>> {
     match read_named(rt, name, text) {
-        Ok(bytes) => Ok(Got { bytes, good: true }),
+        Ok(bytes) => Ok(Some(bytes)),
         Err(e) => {
             fail(rt, name, e)?;
-            Ok(Got {
-                bytes: 0,
-                good: false,
-            })
+            Ok(None)
         }
+    }
+}
+
+// Gives the text of a file that an argument names to what is to be done with it, behind the file's name.
+pub fn with_text<F: FnOnce(&[u8], &[u8]) -> io::Result<()>>(
+    rt: &HostRuntime,
+    argument: usize,
+    act: F,
+) -> io::Result<()>
+    requires { F.IsAlwaysCallable act }
+{
+    let mut space = [0u8; 4096];
+    let n = arguments::argument(rt, argument, &mut space);
+    let name = part::front(&space, n);
+    let mut text: [u8; TEXT] = room::filled(0);
+    match read(rt, name, &mut text)? {
+        Some(bytes) => act(name, part::front(&text, bytes)),
+        None => Ok(()),
     }
 }

@@ -1,46 +1,42 @@
 // `desk RECORDS DAY HOUSE`: what the records of a day and house say.
-ghost use Rattle.std.specs.Prelude.{◌≡◌, length};
-
 use crate::streams::Stream;
 use crate::{arguments, files, telling};
 use assistant::refusal;
-use reports::records::{Fault, Wanted};
+use desk::Report;
+use reports::records::Fault;
 use reports::{records, said};
-use requests::piece::Number;
 use std::io;
 use text::part;
+use words::room;
 
 // Enough for every question, whatever the records (docs/DESK.md).
 const BUDGET: u32 = 2000;
 
 // Room for 500 records, and one more.
-fn record_buffer() -> [u32; 1503]
-    ensures { 1503 ≡ length result }
-{
-    [0; 1503]
-}
+const RECORDS: usize = 1503;
 
 fn tell(rt: &HostRuntime, text: &[u8], day: u32, house: u32) -> io::Result<()> {
-    let mut words = record_buffer();
+    let mut words: [u32; RECORDS] = room::filled(0);
     let n = records::gather(text, &mut words);
     let report = desk::ask_desk(part::front(&words, n), day, house, BUDGET, BUDGET, BUDGET);
-    let v = desk::values(report);
-    let mut out = telling::page();
+    let mut out: [u8; telling::PAGE] = room::filled(0);
     let m = said::report(&mut out, 0, day, house, report);
-    if v.status == 0 {
-        return telling::write(rt, Stream::Output, &out, m);
-    }
-    telling::write(rt, Stream::Error, &out, m)
+    let to = if matches!(report, Report::Refused | Report::RanOut) {
+        Stream::Error
+    } else {
+        Stream::Output
+    };
+    telling::write(rt, to, &out, m)
 }
 
 fn complain(rt: &HostRuntime, name: &[u8], text: &[u8], f: Fault) -> io::Result<()> {
-    let mut out = telling::page();
+    let mut out: [u8; telling::PAGE] = room::filled(0);
     let n = said::wrong(&mut out, 0, name, text, f);
     telling::write(rt, Stream::Error, &out, n)
 }
 
 fn long(rt: &HostRuntime, name: &[u8], text: &[u8]) -> io::Result<()> {
-    let mut out = telling::page();
+    let mut out: [u8; telling::PAGE] = room::filled(0);
     let n = refusal::wrong(&mut out, 0, name, text, 0);
     telling::write(rt, Stream::Error, &out, n)
 }
@@ -49,26 +45,10 @@ fn answer(rt: &HostRuntime, name: &[u8], text: &[u8], day: u32, house: u32) -> i
     if 65536 < text.len() {
         return long(rt, name, text);
     }
-    let f = records::first_fault(text);
-    match f.wanted {
-        Wanted::Nothing => tell(rt, text, day, house),
-        Wanted::Day => complain(rt, name, text, f),
-        Wanted::House => complain(rt, name, text, f),
-        Wanted::Slot => complain(rt, name, text, f),
-        Wanted::LineEnd => complain(rt, name, text, f),
+    match records::first_fault(text) {
+        None => tell(rt, text, day, house),
+        Some(fault) => complain(rt, name, text, fault),
     }
-}
-
-fn with_records(rt: &HostRuntime, day: u32, house: u32) -> io::Result<()> {
-    let mut space = [0u8; 4096];
-    let n = arguments::argument(rt, 2, &mut space);
-    let name = part::front_bytes(&space, n);
-    let mut text = files::text_buffer();
-    let got = files::read(rt, name, &mut text)?;
-    if !got.good {
-        return Ok(());
-    }
-    answer(rt, name, part::front_bytes(&text, got.bytes), day, house)
 }
 
 // `desk RECORDS DAY HOUSE`.
@@ -76,13 +56,8 @@ pub fn desk(rt: &HostRuntime) -> io::Result<()> {
     if arguments::argument_count(rt) != 5 {
         return arguments::usage(rt);
     }
-    let first = arguments::number(rt, 3);
-    let Number::Value(day, _) = first else {
+    let (Some(day), Some(house)) = (arguments::number(rt, 3), arguments::number(rt, 4)) else {
         return arguments::usage(rt);
     };
-    let second = arguments::number(rt, 4);
-    let Number::Value(house, _) = second else {
-        return arguments::usage(rt);
-    };
-    with_records(rt, day, house)
+    files::with_text(rt, 2, |name, text| answer(rt, name, text, day, house))
 }

@@ -4,9 +4,9 @@
 mod arguments;
 mod check;
 mod converting;
-mod draw;
 mod files;
 mod intake;
+mod named;
 mod reporting;
 mod streams;
 mod telling;

@@ -11,7 +11,7 @@ const ROOM: u64 = 65536;
 fn answer(rt: &HostRuntime, input: &[u8]) -> io::Result<()> {
     let mut out = [0u8; 65536];
     let n = asking::program::ask(input, &mut out);
-    rt.write_all(part::front_bytes(&out, n))
+    rt.write_all(part::front(&out, n))
 }
 
 fn main(rt: HostRuntime) -> io::Result<()> {

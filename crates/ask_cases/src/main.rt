@@ -12,7 +12,7 @@ fn answer(rt: &HostRuntime, name: &str, input: &[u8]) -> io::Result<()> {
     let mut out = [0u8; 65536];
     let n = asking::program::ask(input, &mut out);
     println!(rt; "{name}")?;
-    rt.write_all(part::front_bytes(&out, n))
+    rt.write_all(part::front(&out, n))
 }
 
 // A line on standard error: the file's name, and why it could not be opened, without the number that the error's text ends in.

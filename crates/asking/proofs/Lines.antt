@@ -145,16 +145,16 @@ module _ (answer : List ℕ) (literals start : ℕ) {r : ℕ} (e : r ≡ disjunc
   pub disjunct_fits : start ≤ length answer → length answer < 2 ^ 63 → Fits w64 (start + r)
   disjunct_fits h k = record { fits = omega (arith, disjunct_in h) }
 
-  pub disjunct_more : {first : List ℕ} {from : ℕ} {whole out : List ℕ} {at left : ℕ} → Left first from whole out at (disjuncts_text left literals (drop start answer)) → 0 < left
+  pub disjunct_more : {first : List ℕ} {from : ℕ} {whole out : List ℕ} {at left less : ℕ} → left ≡ suc less → Left first from whole out at (disjuncts_text left literals (drop start answer))
       → {out' : List ℕ} {at' : ℕ} → Put out at (disjunct_text (take (start + r - start) (drop start answer))) out' at'
-      → Left first from whole out' at' (disjuncts_text (left - 1) literals (drop (start + r) answer))
-  disjunct_more {first} {from} {whole} {out} {at} {left} l h p =
+      → Left first from whole out' at' (disjuncts_text less literals (drop (start + r) answer))
+  disjunct_more {first} {from} {whole} {out} {at} {left} {less} s l p =
       let z : start + r - start ≡ disjunct_length (drop start answer) literals = omega (arith, size) in
       let d : drop (disjunct_length (drop start answer) literals) (drop start answer) ≡ drop (start + r) answer =
       rw (← size) (drop-drop r start answer)
       in
-      further (disjunct_text (take (disjunct_length (drop start answer) literals) (drop start answer))) (disjuncts_text (left - 1) literals (drop (start + r) answer))
-      (rw (next_disjunct left (left - 1) literals (drop start answer) (omega arith), d) at l) (rw z at p)
+      further (disjunct_text (take (disjunct_length (drop start answer) literals) (drop start answer))) (disjuncts_text less literals (drop (start + r) answer))
+      (rw (next_disjunct left less literals (drop start answer) s, d) at l) (rw z at p)
 
 pub disjunct_last : (answer : List ℕ) (literals left start : ℕ) {first : List ℕ} {from : ℕ} {whole out : List ℕ} {at : ℕ}
     → Left first from whole out at (disjuncts_text left literals (drop start answer)) → left ≤ 0 → Put first from whole out at
@@ -187,19 +187,4 @@ module _ (status place tries disjuncts : ℕ) (steps ws : List ℕ) {out : List 
   unfolding report_text
   report_none n = then p (rw (ne_eqb status 0 n) (finish (begin mid next [])))
 
--- input of a right length
-module _ (bytes : ℕ) where
-  pub broken_word : (bytes % 4 ≡ 0 → ⊥) → false ≡ readable bytes
-  unfolding readable
-  broken_word n = rw (ne_eqb (bytes % 4) 0 n)
-
-  module _ (e : bytes % 4 ≡ 0) where
-    pub too_few : bytes < 8 → false ≡ readable bytes
-    unfolding readable
-    too_few h = rw (eq-eqb (bytes % 4) 0 e, lt-leb 8 bytes h)
-
-    pub few_enough : 8 ≤ bytes → leb bytes 64008 ≡ readable bytes
-    unfolding readable
-    few_enough h = rw (eq-eqb (bytes % 4) 0 e, le-leb 8 bytes h)
-
-pub ruleset report_laws = (report_answer, report_none, broken_word, too_few, few_enough)
+pub ruleset report_laws = (report_answer, report_none)

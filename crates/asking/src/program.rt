@@ -6,52 +6,29 @@ ghost use Rattle.asking.specs.Program.{readable, asked, said_of, given_text, ask
 use crate::report;
 use hukolearu::calls;
 use text::part;
-use words::bytes;
 use words::fields::wide;
+use words::{bytes, room};
 
-fn input_buffer() -> [u32; 16384]
-    ensures { 16384 ≡ length result }
-{
-    [0; 16384]
-}
+const INPUT: usize = 16384;
 
-fn proof_buffer() -> [u32; 199]
-    ensures { 199 ≡ length result }
-{
-    [0; 199]
-}
+const ANSWER: usize = 4096;
 
-fn answer_buffer() -> [u32; 4096]
-    ensures { 4096 ≡ length result }
-{
-    [0; 4096]
-}
-
-fn work_buffer() -> [u32; 16384]
-    ensures { 16384 ≡ length result }
-{
-    [0; 16384]
-}
+const WORK: usize = 16384;
 
 // Whole words: the bound, the budget and a file of at most 16,000 words.
+#[tactic(auto, unfolding(crate::specs::Program::readable))]
 fn readable(bytes: usize) -> bool
     ensures { result ≡ readable bytes }
 {
-    if bytes % 4 != 0 {
-        return false;
-    }
-    if bytes < 8 {
-        return false;
-    }
-    bytes <= 64008
+    bytes % 4 == 0 && 8 <= bytes && bytes <= 64008
 }
 
 fn search(out: &mut [u8], bound: u32, budget: u32, file: &[u32]) -> usize
     ensures { Put out.old 0 (given_text (asked file.now bound budget)) out.new result }
 {
-    let mut proof = proof_buffer();
-    let mut answer = answer_buffer();
-    let mut work = work_buffer();
+    let mut proof: [u32; calls::LONGEST_PROOF] = room::filled(0);
+    let mut answer: [u32; ANSWER] = room::filled(0);
+    let mut work: [u32; WORK] = room::filled(0);
     let o = calls::search(file, bound, budget, &mut proof, &mut answer, &mut work);
     let steps = wide(o.proof);
     let words = wide(o.answer);
@@ -86,7 +63,7 @@ fn answer(out: &mut [u8], input: &[u8]) -> usize
     ensures { Put out.old 0 (ask_text input.now) out.new result }
 {
     if readable(input.len()) {
-        let mut space = input_buffer();
+        let mut space: [u32; INPUT] = room::filled(0);
         let n = bytes::gather(input, &mut space);
         return words(out, part::front(&space, n));
     }

@@ -6,6 +6,9 @@ ghost use Rattle.asking.specs.Report.{summary_text, line_text, disjunct_length, 
 use text::put;
 use words::fields;
 
+// A literal's first word has this kind.
+const LITERAL: u32 = 2;
+
 // The first line that `ask` writes.
 fn summary(out: &mut [u8], at: usize, status: u32, place: u32, tries: u32) -> usize
     ensures { Put out.old at (summary_text status place tries) out.new result }
@@ -30,33 +33,25 @@ fn disjunct_length(answer: &[u32], literals: usize) -> usize
     ensures { result ≡ disjunct_length answer.now literals }
 {
     let mut left = literals;
-    let mut i = 0;
-    while i < answer.len() {
-        if fields::kind(answer[i]) == 2 {
+    for (i, word) in answer.iter().enumerate() {
+        if fields::kind(*word) == LITERAL {
             if left == 0 {
                 return i;
             }
             left -= 1;
-            i += 1;
-            continue;
         }
-        i += 1;
     }
-    i
+    answer.len()
 }
 
 fn literals_in(answer: &[u32]) -> usize
     ensures { result ≡ literals_in answer.now }
 {
     let mut count = 0;
-    let mut i = 0;
-    while i < answer.len() {
-        if fields::kind(answer[i]) == 2 {
+    for word in answer {
+        if fields::kind(*word) == LITERAL {
             count += 1;
-            i += 1;
-            continue;
         }
-        i += 1;
     }
     count
 }
@@ -73,12 +68,10 @@ fn disjuncts(out: &mut [u8], from: usize, answer: &[u32], literals: usize, count
 {
     let mut at = from;
     let mut start = 0;
-    let mut left = count;
-    while left > 0 {
+    for _ in 0..count {
         let end = start + disjunct_length(&answer[start..], literals);
         at = disjunct(out, at, &answer[start..end]);
         start = end;
-        left -= 1;
     }
     at
 }

@@ -2,13 +2,15 @@
 use mathlib.Core.Path.{◌≡◌, refl, sym, ◌∙◌}
 use mathlib.Core.Bool.{Bool, true, false, not}
 use mathlib.Core.List.{List, [], ◌∷◌}
-use Prim.Native.Nat.{ℕ, zero, suc, ◌+◌, ◌-◌, ◌≤◌, ◌<◌}
-use native.Mathlib.Omega.{arith}
+use mathlib.Core.Logic.{inl, inr}
+use Prim.Native.Nat.{ℕ, suc, ◌+◌, ◌-◌, ◌≤◌, ◌<◌, min}
+use native.Mathlib.Nat.{eq-or-lt_of_le}
+use native.Mathlib.Omega.{arith, min_cases}
 use lib.ListN.{length, drop, get_or, replicate, drop_of_length-le}
 use borrow.Author.Tests.{eq-eqb, ne_eqb, lt-ltb, le-ltb}
 use Rattle.text.specs.Put.{Put}
 use Rattle.text.specs.Quoted.{bytes}
-use Rattle.text.specs.Digits.{decimal_text}
+use Rattle.text.specs.Digits.{digits_of, significant, decimal_text}
 use Rattle.text.proofs.Putting.{Left, begin, further, finish, then}
 use Rattle.text.proofs.Written.{from_place}
 use Rattle.clausetext.specs.Kinds.{kind_of, goes_on}
@@ -69,14 +71,28 @@ module _ {before : List ℕ} {line column i : ℕ} (g : Counting before line col
   short_column h = omega (arith, g.short, g.within)
 
 -- a number
-module _ {out left : List ℕ} {at n next : ℕ} where
-  pub figure_large : 4294967295 < n → Put out at (bytes "4294967295") left next → Put out at (figure_text n) left next
-  unfolding figure_text
-  figure_large h p = rw (lt-ltb 4294967295 n h) p
+full_text : decimal_text 4294967295 ≡ bytes "4294967295"
+unfolding digits_of significant
+full_text = refl
 
-  pub figure_small : n ≤ 4294967295 → Put out at (decimal_text n) left next → Put out at (figure_text n) left next
+module _ {out left : List ℕ} {at next : ℕ} (n : ℕ) where
+  figure_full : 4294967295 ≤ n → Put out at (decimal_text 4294967295) left next → Put out at (figure_text n) left next
+  unfolding figure_text
+  figure_full h p =
+      elim (eq-or-lt_of_le h) [
+        | inl e ↦ rw (← e) p
+        | inr l ↦ rw (lt-ltb 4294967295 n l) (rw full_text at p)
+      ]
+
+  figure_small : n ≤ 4294967295 → Put out at (decimal_text n) left next → Put out at (figure_text n) left next
   unfolding figure_text
   figure_small h p = rw (le-ltb 4294967295 n h) p
+
+  pub figure_is : {m : ℕ} → m ≡ min n 4294967295 → Put out at (decimal_text m) left next → Put out at (figure_text n) left next
+  figure_is {m} e p =
+      min_cases n 4294967295 (Put out at (figure_text n) left next)
+      (λ h z. figure_small h (rw (e ∙ z) at p))
+      (λ h z. figure_full h (rw (e ∙ z) at p))
 
 -- a byte shown
 pub shown_low : (c : ℕ) → c < 32 → 63 ≡ shown_byte c
@@ -134,16 +150,15 @@ module _ {first : List ℕ} {from : ℕ} {whole out : List ℕ} {at : ℕ} (own 
         further (get_or own i 0 ∷ []) (name_from (drop (i + 1) own)) (rw (from_place own i h, ← ek, sym e ∙ not_false q t) at l) p
 
 -- blanks
-blanks_left : (n : ℕ) → 0 < n → ◌≡◌ {A = List ℕ} (replicate n 32) (32 ∷ replicate (n - 1) 32)
-blanks_left zero h = absurd (omega arith)
-blanks_left (suc n) h = let z : suc n - 1 ≡ n = omega arith in rw z
+blanks_left : (n i : ℕ) → i < n → ◌≡◌ {A = List ℕ} (replicate (n - i) 32) (32 ∷ replicate (n - (i + 1)) 32)
+blanks_left n i h = let z : n - i ≡ suc (n - (i + 1)) = omega arith in rw z
 
-module _ {first : List ℕ} {from : ℕ} {whole out : List ℕ} {at left : ℕ} (l : Left first from whole out at (replicate left 32)) where
-  pub blanks_more : 0 < left → {out' : List ℕ} {at' : ℕ} → Put out at (32 ∷ []) out' at' → Left first from whole out' at' (replicate (left - 1) 32)
-  blanks_more h p = further (32 ∷ []) (replicate (left - 1) 32) (rw (blanks_left left h) at l) p
+module _ {first : List ℕ} {from : ℕ} {whole out : List ℕ} {at n i : ℕ} (l : Left first from whole out at (replicate (n - i) 32)) where
+  pub blanks_more : i < n → {out' : List ℕ} {at' : ℕ} → Put out at (32 ∷ []) out' at' → Left first from whole out' at' (replicate (n - (i + 1)) 32)
+  blanks_more h p = further (32 ∷ []) (replicate (n - (i + 1)) 32) (rw (blanks_left n i h) at l) p
 
-  pub blanks_over : left ≤ 0 → Put first from whole out at
-  blanks_over h = let z : left ≡ 0 = omega arith in finish (rw z at l)
+  pub blanks_over : n ≤ i → Put first from whole out at
+  blanks_over h = let z : n - i ≡ 0 = omega arith in finish (rw z at l)
 
 -- how many bytes are shown before the place
 pub before_few : (column : ℕ) → 1 ≤ column → column ≤ 41 → column - 1 ≡ shown_before column
@@ -153,8 +168,6 @@ pub before_many : (column : ℕ) → 41 < column → 40 ≡ shown_before column
 before_many column h = omega arith
 
 pub ruleset place_laws = (count_begin, count_line, count_column, position_is, some_column, short_column)
-
-pub ruleset figure_laws = (figure_large, figure_small)
 
 pub ruleset shown_laws = (shown_low, shown_high, shown_plain)
 

@@ -19,10 +19,8 @@ pub fn words(out: &mut [u8], from: usize, list: &[u32]) -> usize
     ensures { Put out.old from (bytes_of list.now) out.new result }
 {
     let mut at = from;
-    let mut i = 0;
-    while i < list.len() {
-        at = word(out, at, list[i]);
-        i += 1;
+    for w in list {
+        at = word(out, at, *w);
     }
     at
 }

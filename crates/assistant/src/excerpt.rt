@@ -3,19 +3,15 @@ ghost use Rattle.std.specs.Prelude.{◌≡◌, ◌+◌, ◌-◌, ◌≤◌, min,
 ghost use Rattle.text.specs.Put.{Put};
 ghost use Rattle.assistant.specs.Place.{shown_byte, shown_line, shown_before, around_text, mark_text, excerpt_text};
 
-use crate::place;
 use text::{part, put};
 
 fn shown(c: u8) -> u8
     ensures { result ≡ shown_byte c }
 {
-    if c < 32 {
-        return b'?';
+    match c {
+        32..=126 => c,
+        _ => b'?',
     }
-    if 126 < c {
-        return b'?';
-    }
-    c
 }
 
 // Bytes up to the end of their line.
@@ -23,14 +19,11 @@ fn show(out: &mut [u8], from: usize, own: &[u8]) -> usize
     ensures { Put out.old from (shown_line own.now) out.new result }
 {
     let mut at = from;
-    let mut i = 0;
-    while i < own.len() {
-        let c = own[i];
-        if c == b'\n' {
+    for c in own {
+        if *c == b'\n' {
             return at;
         }
-        at = put::byte(out, at, shown(c));
-        i += 1;
+        at = put::byte(out, at, shown(*c));
     }
     at
 }
@@ -39,10 +32,8 @@ fn blanks(out: &mut [u8], from: usize, n: usize) -> usize
     ensures { Put out.old from (replicate n 32) out.new result }
 {
     let mut at = from;
-    let mut left = n;
-    while left > 0 {
+    for _ in 0..n {
         at = put::byte(out, at, b' ');
-        left -= 1;
     }
     at
 }
@@ -52,10 +43,7 @@ fn shown_before(column: usize) -> usize
     requires { 1 ≤ column }
     ensures { result ≡ shown_before column }
 {
-    if column <= 41 {
-        return column - 1;
-    }
-    40
+    (column - 1).min(40)
 }
 
 // The bytes around the place after some bytes.
@@ -63,8 +51,8 @@ fn around(out: &mut [u8], at: usize, before: &[u8], rest: &[u8], back: usize) ->
     requires { back ≤ length before.now }
     ensures { Put out.old at (around_text before.now rest.now back) out.new result }
 {
-    let near = place::after(before, before.len() - back);
-    let far = part::front_bytes(rest, 40);
+    let near = part::rest(before, before.len() - back);
+    let far = part::front(rest, 40);
     let a = put::bytes(out, at, b"  ");
     let b = show(out, a, near);
     show(out, b, far)

@@ -80,9 +80,7 @@ pub(crate) fn expected(out: &mut [u8], at: usize, want: Want, mode: Mode) -> usi
     ensures { Put out.old at (expected_text want mode) out.new result }
 {
     match mode {
-        Mode::Between => wanted(out, at, want),
-        Mode::Comment => wanted(out, at, want),
-        Mode::Word => wanted(out, at, want),
+        Mode::Between | Mode::Comment | Mode::Word => wanted(out, at, want),
         Mode::Owed(place) => owed(out, at, place),
     }
 }

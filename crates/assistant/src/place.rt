@@ -1,12 +1,12 @@
 // Lines and columns.
-ghost use Rattle.std.specs.Prelude.{◌≡◌, ◌++◌, ◌+◌, ◌≤◌, length, drop};
+ghost use Rattle.std.specs.Prelude.{◌≡◌, ◌++◌, ◌+◌, ◌≤◌, length};
 ghost use Rattle.text.specs.Put.{Put};
 ghost use Rattle.assistant.specs.Place.{position_of, figure_text};
 
 use text::put;
 
 // Lines and columns are counted from 1; a line ends in LF, and a column is a byte.
-#[derive(Drop)]
+#[derive(Clone, Copy, Debug, PartialEq, Eq)]
 pub struct Position {
     pub line: usize,
     pub column: usize,
@@ -19,16 +19,13 @@ pub fn locate(before: &[u8]) -> Position
 {
     let mut line = 1;
     let mut column = 1;
-    let mut i = 0;
-    while i < before.len() {
-        if before[i] == b'\n' {
+    for c in before {
+        if *c == b'\n' {
             line += 1;
             column = 1;
-            i += 1;
-            continue;
+        } else {
+            column += 1;
         }
-        column += 1;
-        i += 1;
     }
     Position { line, column }
 }
@@ -37,10 +34,7 @@ pub fn locate(before: &[u8]) -> Position
 pub fn figure(out: &mut [u8], at: usize, n: usize) -> usize
     ensures { Put out.old at (figure_text n) out.new result }
 {
-    if 4294967295 < n {
-        return put::bytes(out, at, b"4294967295");
-    }
-    put::decimal(out, at, n as u32)
+    put::decimal(out, at, n.min(u32::MAX as usize) as u32)
 }
 
 // A number after a label.
@@ -57,14 +51,4 @@ pub fn both(out: &mut [u8], at: usize, first: &[u8], second: &[u8]) -> usize
 {
     let a = put::bytes(out, at, first);
     put::bytes(out, a, second)
-}
-
-// The bytes from a place on.
-pub fn after(text: &[u8], place: usize) -> &[u8]
-    ensures { result.now ≡ drop place text.now }
-{
-    if place < text.len() {
-        return &text[place..];
-    }
-    &text[0..0]
 }

@@ -23,10 +23,8 @@ fn head(out: &mut [u8], at: usize, name: &[u8], p: Position) -> usize
 fn hope(out: &mut [u8], at: usize, s: State) -> usize
     ensures { Put out.old at (hope_text s) out.new result }
 {
-    let want = s.want;
-    let mode = s.mode;
     let a = put::bytes(out, at, b"expected ");
-    let b = expected::expected(out, a, want, mode);
+    let b = expected::expected(out, a, s.want, s.mode);
     put::byte(out, b, b'\n')
 }
 
@@ -41,12 +39,11 @@ fn long(out: &mut [u8], at: usize, name: &[u8]) -> usize
 pub fn located(out: &mut [u8], at: usize, name: &[u8], text: &[u8], place: usize) -> usize
     ensures { Put out.old at (located_text name.now text.now place) out.new result }
 {
-    let before = part::front_bytes(text, place);
-    let rest = place::after(text, place);
+    let before = part::front(text, place);
+    let rest = part::rest(text, place);
     let p = place::locate(before);
-    let column = p.column;
     let a = head(out, at, name, p);
-    excerpt::excerpt(out, a, before, rest, column)
+    excerpt::excerpt(out, a, before, rest, p.column)
 }
 
 // The same of a text that begins at a place of a longer one, and what was expected.
@@ -60,7 +57,7 @@ pub fn wrong_in(
 ) -> usize
     ensures { Put out.old at (wrong_in_text name.now text.now from place) out.new result }
 {
-    let own = place::after(text, from);
+    let own = part::rest(text, from);
     let a = located(out, at, name, text, place);
     hope(out, a, stuck::stuck_in(own))
 }
@@ -80,14 +77,12 @@ fn name_at(out: &mut [u8], from: usize, text: &[u8], place: usize) -> usize
     ensures { Put out.old from (name_at text.now place) out.new result }
 {
     let mut at = from;
-    let mut i = place;
-    while i < text.len() {
-        let c = text[i];
-        if !kind::goes_on(kind::kind_of(c)) {
+    let rest = part::rest(text, place);
+    for c in rest {
+        if !kind::goes_on(kind::kind_of(*c)) {
             return at;
         }
-        at = put::byte(out, at, c);
-        i += 1;
+        at = put::byte(out, at, *c);
     }
     at
 }

@@ -24,8 +24,9 @@ use Rattle.index.proofs.Linking.{indexed_same}
 use Rattle.engine.specs.Ended.{setting_for}
 use Rattle.engine.specs.Checking.{NotedFor, Copies, Moved, PlayAt, Says, read_for, Checked}
 use Rattle.engine.specs.declared.Conditions.{Conditions}
-use Rattle.engine.specs.declared.check.Judged.{Judged}
-use Rattle.engine.specs.declared.check.Judged.TheVariants as judged
+use Rattle.std.specs.Prelude.{Result, Ok, Err}
+use Rattle.engine.specs.declared.check.Refusal.{Refusal}
+use Rattle.engine.specs.declared.check.Refusal.TheVariants as refusal
 use Rattle.engine.proofs.Checker.Run.{begun_stands}
 use Rattle.hukolearu.proofs.DoorLaws.{question_stands}
 use Rattle.bound_literals.specs.Bound.{onto, play_from, copied_by, copied, copies}
@@ -155,10 +156,10 @@ module _ {f m : List ℕ} {conditions : Conditions} {steps : List ℕ} {place : 
     unfolding play_from
     same_step = g.same ∙ rw (from_place steps i h)
 
-    pub replay_on : {m' : List ℕ} {j : Judged} → Checked f m m' conditions place (get_or steps i 0) j → {next : Place} → j ≡ judged.On next → Replaying f m' conditions steps next (i + 1)
+    pub replay_on : {m' : List ℕ} {j : Result Place Refusal} → Checked f m m' conditions place (get_or steps i 0) j → {next : Place} → j ≡ Ok next → Replaying f m' conditions steps next (i + 1)
     unfolding onto
     replay_on {m'} {j} k {next} e =
-        let here : Checked f m m' conditions place (get_or steps i 0) (judged.On next) = rw e at k in
+        let here : Checked f m m' conditions place (get_or steps i 0) (Ok next) = rw e at k in
         let moved : Moved f m m' (read_for conditions (get_or steps i 0)) place next = here.moves in
         let goes = here.says g.play g.stands in
         record {
@@ -175,15 +176,16 @@ module _ {f m : List ℕ} {conditions : Conditions} {steps : List ℕ} {place : 
           holds = rw (copied_more (table_in f) g.done (read_for conditions (get_or steps i 0))) (holds_on moved.later g.holds (read_for conditions (get_or steps i 0)) moved.copies);
         }
 
-    refused : (m' : List ℕ) (j : Judged) → Says f m' (read_for conditions (get_or steps i 0)) j outcome → ((next : Place) → j ≡ judged.On next → ⊥) → play_after f conditions steps ≡ none
+    refused : (m' : List ℕ) (j : Result Place Refusal) → Says f m' (read_for conditions (get_or steps i 0)) j outcome → ((next : Place) → j ≡ Ok next → ⊥) → play_after f conditions steps ≡ none
     unfolding onto
-    refused m' (judged.On next) k n = absurd (n next refl)
-    refused m' judged.Malformed k n = same_step ∙ rw k.0
-    refused m' judged.NotAllowed k n = same_step ∙ rw k.0
-    refused m' judged.Clashes k n = same_step ∙ rw k
-    refused m' judged.Circular k n = same_step ∙ rw k
+    refused m' (Ok next) k n = absurd (n next refl)
+    refused m' (Err refusal.Malformed) k n = same_step ∙ rw k.0
+    refused m' (Err refusal.NotAllowed) k n = same_step ∙ rw k.0
+    refused m' (Err refusal.Clashes) k n = same_step ∙ rw k
+    refused m' (Err refusal.Circular) k n = same_step ∙ rw k
+    refused m' (Err refusal.LeavesOpen) k n = absurd k
 
-    pub replay_refused : {m' : List ℕ} (j : Judged) → Checked f m m' conditions place (get_or steps i 0) j → ((next : Place) → j ≡ judged.On next → ⊥) → play_after f conditions steps ≡ none
+    pub replay_refused : {m' : List ℕ} (j : Result Place Refusal) → Checked f m m' conditions place (get_or steps i 0) j → ((next : Place) → j ≡ Ok next → ⊥) → play_after f conditions steps ≡ none
     replay_refused {m'} j k n = refused m' j (k.says g.play g.stands) n
 
   pub replay_done : length steps ≤ i → Taken f m conditions steps

@@ -5,6 +5,7 @@ use mathlib.Core.List.{List, [], ◌∷◌, map}
 use mir.Syntax.{w32}
 use mir.Val.{Fits}
 use mathlib.Core.Option.{none, some}
+use Rattle.std.specs.Prelude.{Some, None}
 use mathlib.Core.Path.{◌≡◌, refl, sym, ◌∙◌, ap}
 use native.Mathlib.Omega.{arith}
 use Prim.Native.Nat.{ℕ, zero, suc, ◌+◌, ◌*◌, ◌-◌, ◌≤◌, ◌<◌}
@@ -19,7 +20,7 @@ use Rattle.unification.specs.Good.{word_at, Inside, Good}
 use Rattle.answers.specs.Writing.{resolved}
 use Rattle.answers.proofs.CopyWords.{Reached, own_words_lem, own_drop, copy_count, copy_reached, offset_inside, offset_small, offset_word, offset_reached, offset_literal, offset_says}
 use Rattle.bound_literals.specs.Bound.{literal_of_copy, words_under}
-use Rattle.bound_literals.specs.Held.{Filled, clause_held, words_held, OffsetFor}
+use Rattle.bound_literals.specs.Held.{Filled, clause_held, words_held, LiteralFor, OffsetFor}
 use Rattle.bound_literals.proofs.Filling.{fill_none}
 
 -- how far a literal is sought: so many are still to be passed from an offset on
@@ -35,18 +36,13 @@ module _ {f m : List ℕ} {copy number : ℕ} (h : Good f m) (c : copy < copies_
   seek_begin e k = record { whole = copy_count h c e k; reached = copy_reached h c; low = omega arith; same = rw (own_words_lem (h.starts copy c)) }
 
   module _ {count i left : ℕ} (g : Seeking f m copy number count i left) where
-    pub seek_over : count < i → OffsetFor f m copy number 0
+    pub seek_over : count < i → OffsetFor f m copy number None
     unfolding copy_of literals_from
     seek_over l =
         let b : length (own_words f (start_at m copy)) ≤ i = omega (arith, g.whole) in
         let e : drop i (own_words f (start_at m copy)) ≡ [] = drop_of_length-le (own_words f (start_at m copy)) b in
         let gone : get_elem? (clause_of (own_words f (start_at m copy))).literals number ≡ none = rw e at g.same in
-        record {
-          small = omega (arith, h.copies);
-          missing = λ z. nowhere (clause_of (own_words f (start_at m copy))).literals number gone;
-          stands = λ z. absurd (z refl);
-          literal = λ z. absurd (z refl);
-        }
+        nowhere (clause_of (own_words f (start_at m copy))).literals number gone
       where
         nowhere : (ls : List (Literal ℕ)) (n : ℕ) → get_elem? ls n ≡ none → get_elem? (map (literal_under (fresh copy)) ls) n ≡ none
         nowhere [] n e = refl
@@ -84,13 +80,12 @@ module _ {f m : List ℕ} {copy number : ℕ} (h : Good f m) (c : copy < copies_
           same_here =
               g.same ∙ ap (λ (ls : List (Literal ℕ)). get_elem? ls left) (ap literals_from here ∙ literals_literal w (drop (i + 1) (own_words f (start_at m copy))) (sym ek ∙ two))
 
-          pub seek_found : left ≡ 0 → OffsetFor f m copy number i
+          pub seek_found : left ≡ 0 → OffsetFor f m copy number (Some i)
           unfolding copy_of
           seek_found z = record {
             small = seek_small;
-            missing = λ e. absurd (omega (arith, g.low));
-            stands = λ e. offset_literal h c g.reached within (ap kind_of (sym ew) ∙ sym ek ∙ two);
-            literal = λ e.
+            stands = offset_literal h c g.reached within (ap kind_of (sym ew) ∙ sym ek ∙ two);
+            literal =
                 rw (offset_says h c g.reached within, word_is)
                 (map_some (literal_under (fresh copy)) (clause_of (own_words f (start_at m copy))).literals number (rw z at same_here));
           }
@@ -118,22 +113,19 @@ module _ (f m : List ℕ) (copy number : ℕ) where
   unfolding words_held clause_held literal_of_copy words_under
   held_none out e h = none-held out (rw (le-ltb copy (copies_of m) (omega arith)))
 
-  module _ (c : copy < copies_of m) {at : ℕ} (g : OffsetFor f m copy number at) where
+  module _ (c : copy < copies_of m) where
+    pub held_missing : OffsetFor f m copy number None → (out : List ℕ) → Filled out 0 (words_held f m copy number) out 0
+    unfolding words_held clause_held literal_of_copy words_under
+    held_missing g out = none-held out (rw (lt-ltb copy (copies_of m) c, g))
+
+  module _ (c : copy < copies_of m) {at : ℕ} (g : OffsetFor f m copy number (Some at)) where
     pub held_copy : Fits w32 (copy * 256)
     held_copy = record { fits = omega (arith, g.small) }
 
     pub held_reference : Fits w32 (copy * 256 + at)
     held_reference = record { fits = omega (arith, g.small) }
 
-    pub held_missing : (out : List ℕ) → at ≡ 0 → Filled out 0 (words_held f m copy number) out 0
-    unfolding words_held clause_held literal_of_copy words_under
-    held_missing out z = none-held out (rw (lt-ltb copy (copies_of m) c, g.missing z))
-
-    pub held_there : (at ≡ 0 → ⊥) → {out left : List ℕ} {next : ℕ} → Filled out 0 (words_under (resolved f m) (some (literal_at_reference f m (copy * 256 + at)))) left next
+    pub held_there : {out left : List ℕ} {next : ℕ} → Filled out 0 (words_under (resolved f m) (some (literal_at_reference f m (copy * 256 + at)))) left next
         → Filled out 0 (words_held f m copy number) left next
     unfolding words_held clause_held literal_of_copy
-    held_there n q = rw (lt-ltb copy (copies_of m) c, g.literal n) q
-
-pub ruleset seek_laws = (seek_begin, seek_over, seek_inside, seek_small, seek_other, seek_found, seek_on)
-
-pub ruleset held_laws = (held_copy, held_reference)
+    held_there q = rw (lt-ltb copy (copies_of m) c, g.literal) q

@@ -1,5 +1,6 @@
 -- Machinery: what the functions below the call promise one another. No public contract speaks of it.
 use Rattle.std.specs.Prelude.{ltb, length, Bool, true, false, cond, List, map, ◌≡◌, ℕ, ◌+◌, ◌*◌, min, ◌<◌}
+use Rattle.std.specs.Prelude as Prelude
 use Rattle.std.proofs.Math.ListN.{get_elem?}
 use Rattle.std.proofs.Math.Option.{Option, none, some}
 use Rattle.table.specs.Syntax.{Clause}
@@ -34,12 +35,16 @@ clause_held f m copy = cond (ltb copy (copies_of m)) (some (clause_of (own_words
 unfoldable pub words_held : List ℕ → List ℕ → ℕ → ℕ → List ℕ
 words_held f m copy number = words_under (resolved f m) (literal_of_copy copy number (clause_held f m copy))
 
--- where a copy's literal stands among its clause's words
-pub record OffsetFor (f m : List ℕ) (copy number r : ℕ) : Type 0 where
-  pub small : copy * 256 + r < most_references
-  pub missing : r ≡ 0 → get_elem? (copy_of copy (clause_of (own_words f (start_at m copy)))) number ≡ none
-  pub stands : (r ≡ 0 → ⊥) → LiteralStands f m (copy * 256 + r)
-  pub literal : (r ≡ 0 → ⊥) → get_elem? (copy_of copy (clause_of (own_words f (start_at m copy)))) number ≡ some (literal_at_reference f m (copy * 256 + r))
+-- a copy's literal stands so far among its clause's words
+pub record LiteralFor (f m : List ℕ) (copy number offset : ℕ) : Type 0 where
+  pub small : copy * 256 + offset < most_references
+  pub stands : LiteralStands f m (copy * 256 + offset)
+  pub literal : get_elem? (copy_of copy (clause_of (own_words f (start_at m copy)))) number ≡ some (literal_at_reference f m (copy * 256 + offset))
+
+-- where a copy's literal stands, if there is one
+abbrev pub OffsetFor : List ℕ → List ℕ → ℕ → ℕ → Prelude.Option ℕ → Type 0
+OffsetFor f m copy number Prelude.None = get_elem? (copy_of copy (clause_of (own_words f (start_at m copy)))) number ≡ none
+OffsetFor f m copy number (Prelude.Some offset) = LiteralFor f m copy number offset
 
 -- what comes of steps, by the rules' own play
 abbrev pub play_after : List ℕ → Conditions → List ℕ → Option Play

@@ -9,7 +9,7 @@ ghost use Rattle.bound_literals.specs.Held.{slots_after};
 use crate::{replay, slot};
 use engine::Conditions;
 use hukolearu::door;
-use hukolearu::door::{Entry, Inputs};
+use hukolearu::door::Inputs;
 use unification::memory;
 
 // Past the door.
@@ -42,13 +42,12 @@ pub fn literals(file: &[u32], bound: u32, steps: &[u32], out: &mut [u32], work: 
         proof: 0,
         least: 0,
     };
-    let entry = door::enter(file, inputs);
-    match entry {
-        Entry::Refused(_, _) => {
+    match door::enter(file, inputs) {
+        Err(_) => {
             door::leave(work);
             0
         }
-        Entry::Open(question) => {
+        Ok(question) => {
             let conditions = Conditions {
                 bound,
                 restarts: false,

@@ -3,7 +3,6 @@ ghost use Rattle.std.specs.Prelude.{◌≡◌};
 ghost use Rattle.hukolearu.specs.Telling.{Passed};
 ghost use Rattle.bound_literals.specs.Held.{Replayed};
 
-use engine::check::Judged;
 use engine::{Conditions, check};
 use tableaux::tableau;
 
@@ -20,14 +19,12 @@ pub(crate) fn replay(
 {
     check::prepare(file, work, true);
     let mut place = tableau::begin(file, work, question);
-    let mut i = 0;
-    while i < steps.len() {
-        let judged = check::step_taken(file, work, true, question, conditions, place, steps[i]);
-        let Judged::On(next) = judged else {
+    for step in steps {
+        let judged = check::step_taken(file, work, true, question, conditions, place, *step);
+        let Ok(next) = judged else {
             return false;
         };
         place = next;
-        i += 1;
     }
     true
 }

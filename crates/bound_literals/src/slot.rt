@@ -11,27 +11,24 @@ use text::put;
 use unification::memory;
 use words::fields;
 
-// Where a copy's literal of this number stands among the words of its clause; 0, where the clause word stands, if there is none.
-fn offset(file: &[u32], work: &[u32], copy: u32, number: u32) -> u32
+// Where a copy's literal of this number stands among the words of its clause, if there is one.
+fn offset(file: &[u32], work: &[u32], copy: u32, number: u32) -> Option<u32>
     requires { Good file.now work.now × (copy < copies_of work.now) }
     ensures { OffsetFor file.now work.now copy number result }
 {
     let own = copy * 256;
     let count = fields::following(memory::word_at(file, work, own));
     let mut left = number;
-    let mut i: u32 = 1;
-    while i <= count {
-        if fields::kind(memory::word_at(file, work, own + i)) != 2 {
-            i += 1;
+    for offset in 1..count + 1 {
+        if fields::kind(memory::word_at(file, work, own + offset)) != 2 {
             continue;
         }
         if left == 0 {
-            return i;
+            return Some(offset);
         }
         left -= 1;
-        i += 1;
     }
-    0
+    None
 }
 
 // The words of a copy's literal, if there is one, as far as a buffer holds them.
@@ -42,21 +39,18 @@ fn held(file: &[u32], work: &[u32], copy: u32, number: u32, out: &mut [u32]) -> 
     if work[memory::COPIES] <= copy {
         return 0;
     }
-    let at = offset(file, work, copy, number);
-    if at == 0 {
-        return 0;
+    match offset(file, work, copy, number) {
+        Some(at) => walk::literal(file, work, copy * 256 + at, out),
+        None => 0,
     }
-    walk::literal(file, work, copy * 256 + at, out)
 }
 
 fn words(list: &[u32], out: &mut [u32], from: usize) -> usize
     ensures { Put out.old from list.now out.new result }
 {
     let mut at = from;
-    let mut i = 0;
-    while i < list.len() {
-        at = put::word(out, at, list[i]);
-        i += 1;
+    for word in list {
+        at = put::word(out, at, *word);
     }
     at
 }
@@ -77,10 +71,8 @@ pub(crate) fn slots(file: &[u32], work: &[u32], out: &mut [u32]) -> usize
     ensures { Put out.old 0 (slots_from (words_held file.now work.now) 0 231) out.new result }
 {
     let mut at = 0;
-    let mut i: u32 = 0;
-    while i < 231 {
+    for i in 0..231 {
         at = slot(file, work, i / 7, i % 7, out, at);
-        i += 1;
     }
     at
 }

@@ -10,9 +10,10 @@ use std::io;
 use std::io::Read;
 use table_verbs::{tables, texts};
 use text::{part, put};
+use words::room;
 
 fn answer_request(rt: &HostRuntime, line: &[u8]) -> io::Result<()> {
-    let mut values = lent::value_buffer();
+    let mut values: [usize; lent::VALUE_ROOM] = room::filled(0);
     if search::answer_searches(rt, line, &mut values)? {
         return Ok(());
     }
@@ -45,7 +46,7 @@ fn answer_line(rt: &HostRuntime, line: &[u8], full: bool) -> io::Result<()> {
 // Answers a line that has ended; how long the line is then.
 fn end_line(rt: &HostRuntime, line: &[u8], used: usize, ended: bool) -> io::Result<usize> {
     if ended {
-        answer_line(rt, part::front_bytes(line, used), line.len() <= used)?;
+        answer_line(rt, part::front(line, used), line.len() <= used)?;
         return Ok(0);
     }
     Ok(used)
@@ -110,6 +111,6 @@ fn serve(rt: &HostRuntime, line: &mut [u8]) -> io::Result<()> {
 }
 
 fn main(rt: HostRuntime) -> io::Result<()> {
-    let mut line = lent::line_buffer();
+    let mut line: [u8; lent::LINE_ROOM] = room::filled(0);
     serve(&rt, &mut line)
 }

@@ -142,16 +142,20 @@ module _ {own : List ℕ} where
       pub owed_here : LiteralHere own next
       owed_here = let k = split o.here some in record { literal = k.0; within = k.2; stands = k.3 }
 
-      pub owed_next : {mid : List ℕ} {bar : ℕ} → Put out end (bytes " | ") mid bar → {later : List ℕ} {r : Reached} → LiteralWritten own next mid bar later r
+      one-less : {mid : List ℕ} {bar : ℕ} → Put out end (bytes " | ") mid bar → {later : List ℕ} {r : Reached} → LiteralWritten own next mid bar later r
           → Owed own r.word (owed - 1) first from whole later r.byte
       unfolding alternatives_text
-      owed_next p w =
+      one-less p w =
           let k = split o.here some in
           let v = w.told k.0 k.2 k.3 in
           rw v.passed (record {
             here = k.4;
             left = rw k.6 (further (bytes " | " ++ literal_text k.0) (alternatives_text k.1) (rw k.5 at o.left) (joined p v.written));
           })
+
+      pub owed_next : {left : ℕ} → left ≡ owed - 1 → {mid : List ℕ} {bar : ℕ} → Put out end (bytes " | ") mid bar → {later : List ℕ} {r : Reached}
+          → LiteralWritten own next mid bar later r → Owed own r.word left first from whole later r.byte
+      owed_next e p w = rw e (one-less p w)
 
 -- the literals of a clause
 module _ {own : List ℕ} (c : IsClause own) where

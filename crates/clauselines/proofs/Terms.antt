@@ -210,10 +210,10 @@ module _ {own : List ℕ} {at many : ℕ} {first : List ℕ} {from : ℕ} where
       pub going_here : TermHere own next
       going_here = first_here owed-some g.here
 
-      pub going_next : {mid : List ℕ} {comma : ℕ} → Put out end (44 ∷ []) mid comma → {later : List ℕ} {r : Reached} → TermWritten own next mid comma later r
+      one-less : {mid : List ℕ} {comma : ℕ} → Put out end (44 ∷ []) mid comma → {later : List ℕ} {r : Reached} → TermWritten own next mid comma later r
           → Going own at many first from r.word (owed - 1) later r.byte
       unfolding terms_words further_text
-      going_next {mid} {comma} p {later} {r} w = record {
+      one-less {mid} {comma} p {later} {r} w = record {
         onward = omega (arith, g.onward, term_onward owed-some w g.here);
         size = same_length owed-some w g.here ∙ same_size p ∙ g.size;
         here = others_here owed-some w g.here;
@@ -235,5 +235,9 @@ module _ {own : List ℕ} {at many : ℕ} {first : List ℕ} {from : ℕ} where
                 ends = omega (arith, o.ends, head.passed, ap (λ (l : List ℕ). length l) whole, length-append (term_words k.0) (terms_words k.1));
                 left = further (44 ∷ term_text k.0) (further_text k.1) (rw rest at o.left) (joined p head.written);
               }
+
+      pub going_next : {left : ℕ} → left ≡ owed - 1 → {mid : List ℕ} {comma : ℕ} → Put out end (44 ∷ []) mid comma → {later : List ℕ} {r : Reached}
+          → TermWritten own next mid comma later r → Going own at many first from r.word left later r.byte
+      going_next e p w = rw e (one-less p w)
 
 pub ruleset term_laws = (term_in, next_fits, arguments_fewer, term_variable, arguments_here, term_function, arguments_none, first_here, others_here, others_fewer, arguments_some, going_begin, going_done, going_here, going_next)

@@ -21,6 +21,7 @@ pub fn refused(status: u32, place: u32) -> TextWritten
 }
 
 // A line for each clause, the question's the last.
+#[tactic(auto, using(crate::proofs::Walks::walk_laws))]
 fn lines(file: &[u32], question: usize, out: &mut [u8]) -> usize
     requires { Ready file.now question }
     ensures { Put out.old 0 (table_text (table_in file.now)) out.new result }

@@ -17,6 +17,7 @@ struct Reached {
 }
 
 // A term is its word and then its arguments, each of them a term.
+#[tactic(auto, using(crate::proofs::Terms::term_laws))]
 #[cycle(arguments_further_term)]
 fn term(own: &[u32], at: usize, out: &mut [u8], from: usize) -> Reached
     requires { TermHere own.now at }
@@ -35,6 +36,7 @@ fn term(own: &[u32], at: usize, out: &mut [u8], from: usize) -> Reached
 }
 
 // So many arguments, in parentheses; where there are none, there are no parentheses.
+#[tactic(auto, using(crate::proofs::Terms::term_laws))]
 #[cycle(arguments_further_term)]
 fn arguments(own: &[u32], at: usize, many: u32, out: &mut [u8], from: usize) -> Reached
     requires { TermsHere own.now at many }
@@ -57,19 +59,17 @@ fn further(own: &[u32], at: usize, many: u32, out: &mut [u8], from: usize) -> Re
     requires { TermsHere own.now at many }
     ensures { TermsWritten further_text own.now at many out.old from out.new result }
 {
-    let mut next = at;
-    let mut end = from;
-    let mut left = many;
-    while left > 0 {
-        let comma = put::byte(out, end, b',');
-        let reached = term(own, next, out, comma);
-        next = reached.word;
-        end = reached.byte;
-        left -= 1;
+    let mut reached = Reached {
+        word: at,
+        byte: from,
+    };
+    for _ in 0..many {
+        let comma = put::byte(out, reached.byte, b',');
+        reached = term(own, reached.word, out, comma);
     }
-    let closed = put::byte(out, end, b')');
+    let closed = put::byte(out, reached.byte, b')');
     Reached {
-        word: next,
+        word: reached.word,
         byte: closed,
     }
 }
@@ -84,6 +84,7 @@ fn sign(out: &mut [u8], from: usize, negative: bool) -> usize
 }
 
 // A literal is its sign, its predicate and then its arguments.
+#[tactic(auto, using(crate::proofs::Clauses::clause_laws))]
 fn literal(own: &[u32], at: usize, out: &mut [u8], from: usize) -> Reached
     requires { LiteralHere own.now at }
     ensures { LiteralWritten own.now at out.old from out.new result }
@@ -99,20 +100,19 @@ fn alternatives(own: &[u32], at: usize, many: u32, out: &mut [u8], from: usize) 
     requires { LiteralsHere own.now at many }
     ensures { Put out.old from (alternatives_text (literals_from (drop at own.now))) out.new result }
 {
-    let mut next = at;
-    let mut end = from;
-    let mut left = many;
-    while left > 0 {
-        let bar = put::bytes(out, end, b" | ");
-        let reached = literal(own, next, out, bar);
-        next = reached.word;
-        end = reached.byte;
-        left -= 1;
+    let mut reached = Reached {
+        word: at,
+        byte: from,
+    };
+    for _ in 0..many {
+        let bar = put::bytes(out, reached.byte, b" | ");
+        reached = literal(own, reached.word, out, bar);
     }
-    end
+    reached.byte
 }
 
 // The literals of a clause, with bars between them.
+#[tactic(auto, using(crate::proofs::Clauses::clause_laws))]
 fn literals(own: &[u32], out: &mut [u8], from: usize) -> usize
     requires { IsClause own.now }
     ensures { Put out.old from (literals_text (clause_of own.now).literals) out.new result }

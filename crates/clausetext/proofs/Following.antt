@@ -1,4 +1,5 @@
 -- The tokens that may follow in each state of the judgement, in the words of the grammar, with the roles still to come; and how they begin.
+use Rattle.std.specs.Prelude.{Option, Some, None}
 use mathlib.Core.Path.{◌≡◌, refl}
 use mathlib.Core.Bool.{Bool, true, false}
 use mathlib.Core.List.{List, [], ◌∷◌}
@@ -8,8 +9,6 @@ use Rattle.clausetext.specs.declared.kind.Mark.{Mark}
 use Rattle.clausetext.specs.declared.kind.Mark.TheVariants.{Open, Close, Comma, Bar, Tilde, Dot}
 use Rattle.clausetext.specs.declared.judge.Want.{Want}
 use Rattle.clausetext.specs.declared.judge.Want.TheVariants.{Clause as NextClause, Opening, Name, AfterName, Role as NextRole, AfterRole, Formula as NextFormula, Literal as NextLiteral, Atom, Symbol, Term as NextTerm, Ended, Closing, Stop}
-use Rattle.clausetext.specs.declared.judge.Went.{Went}
-use Rattle.clausetext.specs.declared.judge.Went.TheVariants.{To, Nowhere}
 use Rattle.clausetext.specs.Syntax.{Term, Terms, nil, Literal, Role, role_name, Clause}
 use Rattle.clausetext.specs.Tokens.{Token, word, capital, mark}
 use Rattle.clausetext.specs.Grammar.{Applied, bare, applied, TermRule, upper, lower, Arguments, LiteralRule, positive, negated, Disjunction, Formula, plain, bracketed, cnf, clause, Clauses, none}
@@ -90,9 +89,9 @@ applied_joined f (alone r) = record { said = nil; left = _; rule = bare; goes = 
 applied_joined f (opens (term ys r)) = record { said = _; left = _; rule = applied ys; goes = r }
 
 -- a sign leads on where it may follow
-abbrev pub Led : List Token → List Role → Went → Type 0
-Led ts rs (To v) = Rest v ts rs
-Led ts rs Nowhere = ⊥
+abbrev pub Led : List Token → List Role → Option Want → Type 0
+Led ts rs (Some v) = Rest v ts rs
+Led ts rs None = ⊥
 
 pub never : {A : Type 0} {m : Mark} {w : List ℕ} → mark m ≡ word w → A
 never e = let z : ◌≡◌ {A = ℕ} 0 1 = cc in absurd (omega arith)
@@ -110,8 +109,8 @@ clauses_first (Clauses.more (clause f) cs) = refl
 term_no_sign : {A : Type 0} {y : Term} {m : Mark} {ts us : List Token} → TermRule y (mark m ∷ ts) us → A
 term_no_sign (lower a) = never (applied_first a)
 
-tilde_leads : {p : Bool} {l : Literal} {m : Mark} {ts us : List Token} {rs : List Role} (o : Went) → LiteralRule l (mark m ∷ ts) us → Rest (Ended zero p) us rs
-    → Led ts rs (row m o Nowhere Nowhere Nowhere (To (Atom p)) Nowhere)
+tilde_leads : {p : Bool} {l : Literal} {m : Mark} {ts us : List Token} {rs : List Role} (o : Option Want) → LiteralRule l (mark m ∷ ts) us → Rest (Ended zero p) us rs
+    → Led ts rs (row m o None None None (Some (Atom p)) None)
 unfolding row
 tilde_leads o (positive a) r = elim a [ ]
 tilde_leads o (negated a) r = atom a r
@@ -123,10 +122,10 @@ sign_leads (opening r) = r
 sign_leads (after_name r) = r
 sign_leads (after_role r) = r
 sign_leads (formula (plain d) r) =
-    let f = literal_split (literal d (without r)) in tilde_leads (To (NextLiteral true)) f.rule f.goes
+    let f = literal_split (literal d (without r)) in tilde_leads (Some (NextLiteral true)) f.rule f.goes
 sign_leads (formula (bracketed d) r) = literal d (inside r)
 sign_leads (atom a _) = elim a [ ]
-sign_leads (literal d r) = let f = literal_split (literal d r) in tilde_leads Nowhere f.rule f.goes
+sign_leads (literal d r) = let f = literal_split (literal d r) in tilde_leads None f.rule f.goes
 sign_leads (around (inside r)) = r
 sign_leads (around (without (closing r))) = r
 sign_leads (bar r) = r
@@ -143,12 +142,12 @@ sign_leads (closing r) = r
 sign_leads (stop r) = r
 
 -- and the other way round: before what a sign leads to, the sign may stand
-abbrev pub Leading : Want → Mark → Went → Type 0
-Leading v m (To u) = (ts : List Token) (rs : List Role) → Rest u ts rs → Rest v (mark m ∷ ts) rs
-Leading v m Nowhere = Unit {0}
+abbrev pub Leading : Want → Mark → Option Want → Type 0
+Leading v m (Some u) = (ts : List Token) (rs : List Role) → Rest u ts rs → Rest v (mark m ∷ ts) rs
+Leading v m None = Unit {0}
 
-module _ (P : Mark → Went → Type 0) where
-  pub in_row : (m : Mark) {o c k b t d : Went} → P Open o → P Close c → P Comma k → P Bar b → P Tilde t → P Dot d → P m (row m o c k b t d)
+module _ (P : Mark → Option Want → Type 0) where
+  pub in_row : (m : Mark) {o c k b t d : Option Want} → P Open o → P Close c → P Comma k → P Bar b → P Tilde t → P Dot d → P m (row m o c k b t d)
   unfolding row
   in_row Open o c k b t d = o
   in_row Close o c k b t d = c
@@ -166,11 +165,11 @@ unfolding on_ended
 leading_ended zero p m = in_row (Leading (Ended zero p)) m tt (λ ts rs. close_last p) tt (λ ts rs. bar) tt tt
 leading_ended (suc d) p m = in_row (Leading (Ended (suc d) p)) m tt (λ ts rs. close) (λ ts rs. comma) tt tt tt
 
-leading_alone : (d : ℕ) (p : Bool) (m : Mark) (v : Went) → Leading (Ended d p) m v → Leading (Symbol d p) m v
-leading_alone d p m (To v) f = λ ts rs r. alone (f ts rs r)
-leading_alone d p m Nowhere f = tt
+leading_alone : (d : ℕ) (p : Bool) (m : Mark) (v : Option Want) → Leading (Ended d p) m v → Leading (Symbol d p) m v
+leading_alone d p m (Some v) f = λ ts rs r. alone (f ts rs r)
+leading_alone d p m None f = tt
 
-leading_symbol : (d : ℕ) (p : Bool) (m : Mark) → Leading (Ended d p) m (on_ended d p m) → Leading (Symbol d p) m (row m (To (NextTerm d p)) (on_ended d p m) (on_ended d p m) (on_ended d p m) (on_ended d p m) (on_ended d p m))
+leading_symbol : (d : ℕ) (p : Bool) (m : Mark) → Leading (Ended d p) m (on_ended d p m) → Leading (Symbol d p) m (row m (Some (NextTerm d p)) (on_ended d p m) (on_ended d p m) (on_ended d p m) (on_ended d p m) (on_ended d p m))
 unfolding row
 leading_symbol d p Open f = λ ts rs. opens
 leading_symbol d p Close f = leading_alone d p Close (on_ended d p Close) f

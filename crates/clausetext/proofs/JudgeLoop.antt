@@ -1,4 +1,6 @@
 -- A text judged byte by byte, one law for each outcome, with premises as the code has them.
+use Rattle.std.specs.Prelude.{Option, Some, None, Result, Ok, Err, ok_or}
+use Rattle.clausetext.specs.Texts.{Verdict}
 use mathlib.Core.Path.{◌≡◌, refl, sym, ◌∙◌}
 use mathlib.Core.Bool.{Bool, true, false, cond}
 use mathlib.Core.List.{List}
@@ -16,12 +18,6 @@ use Rattle.clausetext.specs.declared.judge.Want.TheVariants.{Clause, Opening, Na
 use Rattle.clausetext.specs.declared.judge.Mode.{Mode}
 use Rattle.clausetext.specs.declared.judge.Mode.TheVariants.{Between, Comment, Word, Owed}
 use Rattle.clausetext.specs.declared.judge.State.{State}
-use Rattle.clausetext.specs.declared.judge.Went.{Went}
-use Rattle.clausetext.specs.declared.judge.Went.TheVariants.{To, Nowhere}
-use Rattle.clausetext.specs.declared.judge.Stepped.{Stepped}
-use Rattle.clausetext.specs.declared.judge.Stepped.TheVariants.{Next, Stuck}
-use Rattle.clausetext.specs.declared.judge.Verdict.{Verdict}
-use Rattle.clausetext.specs.declared.judge.Verdict.TheVariants.{Wrong}
 use Rattle.clausetext.specs.Kinds.{kind_of, goes_on}
 use Rattle.clausetext.specs.Judging.{owed_at, depth_of, Room, outside, on_ended, on_sign, signed, on_role, on_lower, on_upper, on_kind, on_byte, step_of, finished, run, start, judged}
 use Rattle.clausetext.proofs.Following.{in_row}
@@ -33,13 +29,13 @@ pub record Small (n : ℕ) (s : State) : Type 0 where
   pub many : s.clauses ≤ n
   pub asking : s.questions ≤ n
 
-abbrev Grown : ℕ → Stepped → Type 0
-Grown n (Next s) = Small (suc n) s
-Grown n Stuck = Unit {0}
+abbrev Grown : ℕ → Option State → Type 0
+Grown n (Some s) = Small (suc n) s
+Grown n None = Unit {0}
 
-abbrev Shallow : ℕ → Went → Type 0
-Shallow n (To v) = depth_of v ≤ n
-Shallow n Nowhere = Unit {0}
+abbrev Shallow : ℕ → Option Want → Type 0
+Shallow n (Some v) = depth_of v ≤ n
+Shallow n None = Unit {0}
 
 outside_shallow : (n : ℕ) (p : Bool) → depth_of (outside p) ≤ n
 outside_shallow n true = omega arith
@@ -72,12 +68,12 @@ module _ {n : ℕ} {s : State} (g : Small n s) where
   moved-grown : (v : Want) (m : Mode) → depth_of v ≤ suc n → Small (suc n) (record { want = v; mode = m; clauses = s.clauses; questions = s.questions })
   moved-grown v m h = record { deep = h; many = omega (arith, g.many); asking = omega (arith, g.asking) }
 
-  signed-grown : (w : Went) → Shallow n w → Grown n (signed s w)
+  signed-grown : (w : Option Want) → Shallow n w → Grown n (signed s w)
   unfolding signed
-  signed-grown (To v) h = moved-grown v Between (omega arith)
-  signed-grown Nowhere h = tt
+  signed-grown (Some v) h = moved-grown v Between (omega arith)
+  signed-grown None h = tt
 
-  grown-cond : (b : Bool) (x y : Stepped) → Grown n x → Grown n y → Grown n (cond b x y)
+  grown-cond : (b : Bool) (x y : Option State) → Grown n x → Grown n y → Grown n (cond b x y)
   grown-cond true x y f h = f
   grown-cond false x y f h = h
 
@@ -147,7 +143,7 @@ module _ {n : ℕ} {s : State} (g : Small n s) where
       (grown-cond (eqb c (owed_at i)) _ _ (stays (Owed (i + 1))) tt)
       (grown-cond (eqb (owed_at i) 46) _ _ (kind-grown c (kind_of c)) tt)
 
-  pub step_grown : (c : ℕ) {t : State} → Next t ≡ step_of s c → Small (suc n) t
+  pub step_grown : (c : ℕ) {t : State} → Some t ≡ step_of s c → Small (suc n) t
   unfolding step_of
   step_grown c e = let h = byte-grown c s.mode in rw (sym e) at h
 
@@ -156,7 +152,7 @@ pub record Judging (text : List ℕ) (s : State) (at : ℕ) : Type 0 where
   pub same : run start 0 text ≡ run s at (drop at text)
   pub small : Small at s
 
-pub judge_long : (text : List ℕ) → 65536 < length text → Wrong 65536 ≡ judged text
+pub judge_long : (text : List ℕ) → 65536 < length text → Err 65536 ≡ judged text
 unfolding judged
 judge_long text h = rw (lt-ltb 65536 (length text) h)
 
@@ -178,14 +174,19 @@ module _ {text : List ℕ} {s : State} {at : ℕ} (g : Judging text s at) where
     unfolding run
     judge_over h e = e ∙ sym (whole_run ∙ rw (drop_of_length-le text h))
 
-    pub judge_stuck : at < length text → {t : Stepped} → t ≡ step_of s (get_or text at 0) → t ≡ Stuck → Wrong at ≡ judged text
+    pub judge_stuck : at < length text → {t : Option State} → t ≡ step_of s (get_or text at 0) → t ≡ None → Err at ≡ judged text
     unfolding run
     judge_stuck h e f = sym (whole_run ∙ rw (from_place text at h, sym e ∙ f))
 
-  pub judge_next : at < length text → {t : Stepped} → t ≡ step_of s (get_or text at 0) → {u : State} → t ≡ Next u → Judging text u (at + 1)
+  pub judge_next : at < length text → {t : Option State} → t ≡ step_of s (get_or text at 0) → {u : State} → t ≡ Some u → Judging text u (at + 1)
   unfolding run
   judge_next h e f =
       let k = step_grown g.small (get_or text at 0) (sym f ∙ e) in
       record { same = g.same ∙ rw (from_place text at h, sym e ∙ f); small = rw add-one k }
 
 pub ruleset judge_laws = (judge_long, judge_begin, judge_room, judge_over, judge_stuck, judge_next)
+
+-- what `?` takes out of a step is its state
+pub next_of : (at : ℕ) {r : Result State ℕ} {u : State} (t : Option State) → r ≡ ok_or t at → r ≡ Ok u → t ≡ Some u
+next_of at {u = u} (Some v) e f = let g : ◌≡◌ {A = Result State ℕ} (Ok v) (Ok u) = sym e ∙ f in cc
+next_of at {u = u} None e f = let g : ◌≡◌ {A = Result State ℕ} (Err at) (Ok u) = sym e ∙ f in cc

@@ -1,4 +1,5 @@
 -- The judgement in the words of Texts: it is the verdict on the text, and the only one.
+use Rattle.std.specs.Prelude.{Ok, Err}
 use mathlib.Core.Path.{◌≡◌, refl, sym, ap, ap₂, ◌∙◌}
 use mathlib.Core.Bool.{Bool, true, false, cond}
 use mathlib.Core.List.{List, [], ◌∷◌, ◌++◌, append_assoc, append-nil}
@@ -11,10 +12,8 @@ use lib.Seq.{take-add, take-length}
 use borrow.Author.Tests.{ltb-true, ltb-false, lt-ltb, le-ltb}
 use Rattle.clausetext.specs.declared.judge.Want.TheVariants.{Clause as NextClause}
 use Rattle.clausetext.specs.declared.judge.Mode.TheVariants.{Between}
-use Rattle.clausetext.specs.declared.judge.Verdict.{Verdict}
-use Rattle.clausetext.specs.declared.judge.Verdict.TheVariants.{Wrong, Fine}
 use Rattle.clausetext.specs.Syntax.{Role, Axiom, Hypothesis, NegatedConjecture, Clause, question}
-use Rattle.clausetext.specs.Texts.{Says, Permitted, CanGoOn, all_bytes, WrongAt, questions, Verdicts, long, wrong, fine}
+use Rattle.clausetext.specs.Texts.{counts, Verdict, Says, Permitted, CanGoOn, all_bytes, WrongAt, questions, Verdicts, long, wrong, fine}
 use Rattle.clausetext.specs.Judging.{run, start, judged}
 use Rattle.clausetext.proofs.Following.{roles, clauses}
 use Rattle.clausetext.proofs.Steps.{Along, between, tallied, asked, From}
@@ -26,15 +25,15 @@ asked_is Axiom q = omega arith
 asked_is Hypothesis q = omega arith
 asked_is NegatedConjecture q = refl
 
-counted : (cs : List Clause) (n q : ℕ) → tallied n q (roles cs) ≡ Fine (n + length cs) (q + questions cs)
+counted : (cs : List Clause) (n q : ℕ) → tallied n q (roles cs) ≡ counts (n + length cs) (q + questions cs)
 unfolding tallied roles questions
-counted [] n q = ap₂ Fine (omega arith) (omega arith)
+counted [] n q = ap₂ counts (omega arith) (omega arith)
 counted (c ∷ cs) n q =
-    counted cs (n + 1) (asked c.role q) ∙ ap₂ Fine (omega arith) (omega (arith, asked_is c.role q))
+    counted cs (n + 1) (asked c.role q) ∙ ap₂ counts (omega arith) (omega (arith, asked_is c.role q))
 
-says_from : {text : List ℕ} {cs : List Clause} → Says text cs → From start text (Fine (length cs) (questions cs))
+says_from : {text : List ℕ} {cs : List Clause} → Says text cs → From start text (counts (length cs) (questions cs))
 says_from {cs = cs} y =
-    record { roles = roles cs; along = between (clauses y.clauses) y.spelt; tally = counted cs 0 0 ∙ ap₂ Fine (omega arith) (omega arith) }
+    record { roles = roles cs; along = between (clauses y.clauses) y.spelt; tally = counted cs 0 0 ∙ ap₂ counts (omega arith) (omega arith) }
 
 along_permitted : {text : List ℕ} {rs : List Role} → Along NextClause Between text rs → Permitted text
 along_permitted (between {ts = ts} (clauses {cs = cs} r) sp) = record { said = cs; says = record { tokens = ts; spelt = sp; clauses = r } }
@@ -42,14 +41,14 @@ along_permitted (between {ts = ts} (clauses {cs = cs} r) sp) = record { said = c
 from_permitted : {text : List ℕ} {total : Verdict} → From start text total → Permitted text
 from_permitted f = along_permitted f.along
 
-permitted_from : {text : List ℕ} (p : Permitted text) → From start text (Fine (length p.said) (questions p.said))
+permitted_from : {text : List ℕ} (p : Permitted text) → From start text (counts (length p.said) (questions p.said))
 permitted_from p = says_from p.says
 
 -- a permitted text is read to its end, and no other
-pub read_permitted : {text : List ℕ} {cs : List Clause} → Says text cs → run start 0 text ≡ Fine (length cs) (questions cs)
-read_permitted {text = text} y = run_goes text start 0 (Fine _ _) (says_from y)
+pub read_permitted : {text : List ℕ} {cs : List Clause} → Says text cs → run start 0 text ≡ counts (length cs) (questions cs)
+read_permitted {text = text} y = run_goes text start 0 (counts _ _) (says_from y)
 
-pub permitted_read : {text : List ℕ} {n q : ℕ} → run start 0 text ≡ Fine n q → Permitted text
+pub permitted_read : {text : List ℕ} {n q : ℕ} → run start 0 text ≡ counts n q → Permitted text
 permitted_read {text} {n} {q} e = from_permitted (run_fine text start 0 n q e)
 
 -- a wrong text is read up to its place
@@ -64,7 +63,7 @@ wrong_at {text} {place} f =
       short = λ h p. w.short h _ (permitted_from p);
     })
 
-pub read_wrong : {text : List ℕ} {place : ℕ} → run start 0 text ≡ Wrong place → WrongAt text place
+pub read_wrong : {text : List ℕ} {place : ℕ} → run start 0 text ≡ Err place → WrongAt text place
 read_wrong {text} {place} e = wrong_at (run_wrong text start 0 place e)
 
 -- what can go on to a permitted text can do so in bytes
@@ -102,11 +101,11 @@ wrong_or_short text place false e w p = w.short (omega (arith, ltb-false place (
 pub wrong_not_permitted : {text : List ℕ} {place : ℕ} → WrongAt text place → Permitted text → ⊥
 wrong_not_permitted {text} {place} = wrong_or_short text place (ltb place (length text)) refl
 
-wrong_read_as : (text : List ℕ) (place : ℕ) (v : Verdict) → run start 0 text ≡ v → WrongAt text place → v ≡ Wrong place
-wrong_read_as text place (Wrong k) e w = ap Wrong (one_place (read_wrong e) w)
-wrong_read_as text place (Fine n q) e w = absurd (wrong_not_permitted w (permitted_read e))
+wrong_read_as : (text : List ℕ) (place : ℕ) (v : Verdict) → run start 0 text ≡ v → WrongAt text place → v ≡ Err place
+wrong_read_as text place (Err k) e w = ap Err (one_place (read_wrong e) w)
+wrong_read_as text place (Ok _) e w = absurd (wrong_not_permitted w (permitted_read e))
 
-pub wrong_read : {text : List ℕ} {place : ℕ} → WrongAt text place → run start 0 text ≡ Wrong place
+pub wrong_read : {text : List ℕ} {place : ℕ} → WrongAt text place → run start 0 text ≡ Err place
 wrong_read {text} {place} w = wrong_read_as text place (run start 0 text) refl w
 
 -- the judgement is the verdict
@@ -121,13 +120,13 @@ only_verdict {text} (wrong h w) = short_judged text h ∙ wrong_read w
 only_verdict {text} (fine h y) = short_judged text h ∙ read_permitted y
 
 read_verdict : (text : List ℕ) (v : Verdict) → length text ≤ 65536 → run start 0 text ≡ v → Verdicts text v
-read_verdict text (Wrong place) h e = wrong h (read_wrong e)
-read_verdict text (Fine n q) h e =
+read_verdict text (Err place) h e = wrong h (read_wrong e)
+read_verdict text (Ok c) h e =
     let p = permitted_read e in
-    let f : Fine (length p.said) (questions p.said) ≡ Fine n q = sym (read_permitted p.says) ∙ e in
+    let f : counts (length p.said) (questions p.said) ≡ Ok c = sym (read_permitted p.says) ∙ e in
     rw f at (fine h p.says)
 
-limited_verdict : (text : List ℕ) (b : Bool) → ltb 65536 (length text) ≡ b → Verdicts text (cond b (Wrong 65536) (run start 0 text))
+limited_verdict : (text : List ℕ) (b : Bool) → ltb 65536 (length text) ≡ b → Verdicts text (cond b (Err 65536) (run start 0 text))
 limited_verdict text true e = long (ltb-true 65536 (length text) e)
 limited_verdict text false e = read_verdict text (run start 0 text) (ltb-false 65536 (length text) e) refl
 

@@ -1,18 +1,20 @@
 -- The code that goes through a text, one law for each outcome, with premises as the code has them.
+use Rattle.std.specs.Prelude.{Some, None}
 use mathlib.Core.Path.{◌≡◌, refl, sym, ◌∙◌}
-use mathlib.Core.Bool.{Bool, true, false, not}
-use mathlib.Core.List.{List, ◌∷◌}
-use Prim.Native.Nat.{ℕ, ◌+◌, ◌≤◌, ◌<◌}
+use mathlib.Core.Bool.{Bool, true, false, cond, not}
+use mathlib.Core.List.{List, [], ◌∷◌}
+use borrow.Author.Tests.{not-true, not-false}
+use Rattle.std.proofs.Common.{◌⊎◌, inl, inr}
+use Prim.Native.Nat.{ℕ, suc, ◌+◌, ◌≤◌, ◌<◌}
 use native.Mathlib.Omega.{arith}
 use native.Mathlib.Numerals.{add-one}
 use lib.Dec.{eqb}
 use lib.ListN.{length, drop, get_or, drop_of_length-le}
 use lib.Seq.{drop-cons}
-use borrow.Author.Tests.{not-true, not-false}
 use Rattle.clausetext.specs.declared.kind.Mark.{Mark}
 use Rattle.clausetext.specs.declared.kind.Kind.{Kind}
 use Rattle.clausetext.specs.declared.kind.Kind.TheVariants.{Blank, Percent, Lower, Upper, Further, Sign, Other}
-use Rattle.clausetext.specs.declared.token.Lexeme.TheVariants.{Word, Capital, Sign as Single, Over}
+use Rattle.clausetext.specs.declared.token.Lexeme.TheVariants.{Word, Capital, Sign as Single}
 use Rattle.clausetext.specs.Kinds.{kind_of, goes_on}
 use Rattle.clausetext.specs.Lexemes.{word_length, lexeme_from, lexeme_at}
 
@@ -20,26 +22,33 @@ use Rattle.clausetext.specs.Lexemes.{word_length, lexeme_from, lexeme_at}
 pub from_place : (text : List ℕ) (at : ℕ) → at < length text → drop at text ≡ get_or text at 0 ∷ drop (at + 1) text
 from_place text at h = rw (add-one, drop-cons text at 0 h)
 
--- where a word ends
-abbrev pub Ending : List ℕ → ℕ → ℕ → Type 0
-Ending text from at = from + word_length (drop from text) ≡ at + word_length (drop at text)
+-- where the letters, digits and `_` at the front end
+abbrev pub Ending : List ℕ → ℕ → Type 0
+Ending text at = word_length text ≡ at + word_length (drop at text)
 
-module _ (text : List ℕ) (from : ℕ) {at : ℕ} (g : Ending text from at) where
-  pub word_over : length text ≤ at → at ≡ from + word_length (drop from text)
+module _ (text : List ℕ) {at : ℕ} (g : Ending text at) where
+  pub word_over : length text ≤ at → at ≤ length text → length text ≡ word_length text
   unfolding word_length
-  word_over h = let s = rw (drop_of_length-le text h) at g in omega arith
+  word_over h l = let s = rw (drop_of_length-le text h) at g in omega arith
 
   module _ (h : at < length text) {k : Kind} (ek : k ≡ kind_of (get_or text at 0)) {q : Bool} (eq : q ≡ goes_on k) where
-    pub word_stops : not q ≡ true → at ≡ from + word_length (drop from text)
+    pub word_stops : not q ≡ true → at ≡ word_length text
     unfolding word_length
     word_stops p =
         let s = rw (from_place text at h, ← ek, sym eq ∙ not-true q p) at g in omega arith
 
-    pub word_on : not q ≡ false → Ending text from (at + 1)
+    pub word_on : not q ≡ false → Ending text (at + 1)
     unfolding word_length
     word_on p = let s = rw (from_place text at h, ← ek, sym eq ∙ not-false q p) at g in omega arith
 
-pub ruleset word_laws = (word_over, word_stops, word_on)
+pub word_within : (text : List ℕ) → word_length text ≤ length text
+unfolding word_length
+word_within [] = omega arith
+word_within (c ∷ text) = by_test (goes_on (kind_of c)) (word_within text)
+  where
+    by_test : (b : Bool) → word_length text ≤ length text → cond b (suc (word_length text)) 0 ≤ suc (length text)
+    by_test true h = omega arith
+    by_test false h = omega arith
 
 -- the first token from a position on
 pub record Passing (text : List ℕ) (from at : ℕ) (remark : Bool) : Type 0 where
@@ -50,7 +59,7 @@ unfolding lexeme_at
 pass_begin text from = record { same = refl }
 
 module _ {text : List ℕ} {from at : ℕ} {remark : Bool} (g : Passing text from at remark) where
-  pub pass_over : length text ≤ at → Over ≡ lexeme_at text from
+  pub pass_over : length text ≤ at → None ≡ lexeme_at text from
   unfolding lexeme_from
   pass_over h = sym (g.same ∙ rw (drop_of_length-le text h))
 
@@ -68,24 +77,19 @@ module _ {text : List ℕ} {from at : ℕ} {remark : Bool} (g : Passing text fro
       unfolding lexeme_from
       pass_percent e = record { same = g.same ∙ rw (from_place text at h, r, sym ek ∙ e) }
 
-      pub pass_lower : k ≡ Lower → {stop : ℕ} → stop ≡ at + 1 + word_length (drop (at + 1) text) → Word at stop ≡ lexeme_at text from
+      pub pass_lower : k ≡ Lower → {stop : ℕ} → stop ≡ at + 1 + word_length (drop (at + 1) text) → Some (Word at stop) ≡ lexeme_at text from
       unfolding lexeme_from
       pass_lower e s = sym (g.same ∙ rw (from_place text at h, r, sym ek ∙ e, s))
 
-      pub pass_upper : k ≡ Upper → {stop : ℕ} → stop ≡ at + 1 + word_length (drop (at + 1) text) → Capital at stop ≡ lexeme_at text from
+      pub pass_upper : k ≡ Upper → {stop : ℕ} → stop ≡ at + 1 + word_length (drop (at + 1) text) → Some (Capital at stop) ≡ lexeme_at text from
       unfolding lexeme_from
       pass_upper e s = sym (g.same ∙ rw (from_place text at h, r, sym ek ∙ e, s))
 
-      pub pass_sign : {m : Mark} → k ≡ Sign m → Single m (at + 1) ≡ lexeme_at text from
+      pub pass_sign : {m : Mark} → k ≡ Sign m → Some (Single m (at + 1)) ≡ lexeme_at text from
       unfolding lexeme_from
       pass_sign e = sym (g.same ∙ rw (from_place text at h, r, sym ek ∙ e))
 
-      pub pass_further : k ≡ Further → Over ≡ lexeme_at text from
+      pub pass_no_token : ((k ≡ Further) ⊎ (k ≡ Other)) → None ≡ lexeme_at text from
       unfolding lexeme_from
-      pass_further e = sym (g.same ∙ rw (from_place text at h, r, sym ek ∙ e))
-
-      pub pass_other : k ≡ Other → Over ≡ lexeme_at text from
-      unfolding lexeme_from
-      pass_other e = sym (g.same ∙ rw (from_place text at h, r, sym ek ∙ e))
-
-pub ruleset next_laws = (pass_begin, pass_over, pass_remark, pass_blank, pass_percent, pass_lower, pass_upper, pass_sign, pass_further, pass_other)
+      pass_no_token (inl e) = sym (g.same ∙ rw (from_place text at h, r, sym ek ∙ e))
+      pass_no_token (inr e) = sym (g.same ∙ rw (from_place text at h, r, sym ek ∙ e))

@@ -4,7 +4,6 @@ pub mod Steps
 pub mod Runs
 pub mod Judgement
 pub mod OneReading
-pub mod KindLaws
 pub mod Lexing
 pub mod Walking
 pub mod JudgeLaws

@@ -1,11 +1,10 @@
 -- The statements of specs/Promises.antt, proved.
+use Rattle.std.specs.Prelude.{Ok, Err}
 use mathlib.Core.Path.{◌≡◌, refl, sym, ◌∙◌}
 use mathlib.Core.List.{List}
 use Prim.Native.Nat.{ℕ, ◌≤◌}
 use lib.ListN.{length}
-use Rattle.clausetext.specs.declared.judge.Verdict.{Verdict}
-use Rattle.clausetext.specs.declared.judge.Verdict.TheVariants.{Wrong, Fine}
-use Rattle.clausetext.specs.Texts.{Permitted, long, wrong, fine}
+use Rattle.clausetext.specs.Texts.{Verdict, Permitted, long, wrong, fine}
 use Rattle.clausetext.specs.Judging.{judged}
 use Rattle.clausetext.specs.Promises
 use Rattle.clausetext.proofs.Judgement.{judged_verdict, only_verdict, short_judged, permitted_read, read_wrong, wrong_not_permitted, one_place, goes_on_in_bytes}
@@ -18,9 +17,9 @@ pub place_exactly : Promises.PlaceExactly
 place_exactly text place h =
     (λ e. read_wrong (sym (short_judged text h) ∙ e), λ w. only_verdict (wrong h w))
 
-refused_or_not : (text : List ℕ) (v : Verdict) → judged text ≡ v → length text ≤ 65536 → (Permitted text → ⊥) → (place : ℕ) × (judged text ≡ Wrong place)
-refused_or_not text (Wrong place) e h n = (place, e)
-refused_or_not text (Fine k q) e h n = absurd (n (permitted_read (sym (short_judged text h) ∙ e)))
+refused_or_not : (text : List ℕ) (v : Verdict) → judged text ≡ v → length text ≤ 65536 → (Permitted text → ⊥) → (place : ℕ) × (judged text ≡ Err place)
+refused_or_not text (Err place) e h n = (place, e)
+refused_or_not text (Ok c) e h n = absurd (n (permitted_read (sym (short_judged text h) ∙ e)))
 
 pub refused_exactly : Promises.RefusedExactly
 refused_exactly text h =

@@ -1,4 +1,5 @@
 -- A whole text read from a state: fine where it may follow, wrong at the first byte after which nothing may.
+use Rattle.std.specs.Prelude.{Option, Some, None, Err}
 use mathlib.Core.Path.{◌≡◌, refl, sym, ◌∙◌}
 use mathlib.Core.Bool.{Bool, true, false, cond, ◌&&◌, ◌||◌}
 use mathlib.Core.List.{List, [], ◌∷◌, ◌++◌}
@@ -11,14 +12,10 @@ use Rattle.clausetext.specs.declared.judge.Want.TheVariants.{Clause as NextClaus
 use Rattle.clausetext.specs.declared.judge.Mode.{Mode}
 use Rattle.clausetext.specs.declared.judge.Mode.TheVariants.{Between, Comment, Word as InWord, Owed}
 use Rattle.clausetext.specs.declared.judge.State.{State}
-use Rattle.clausetext.specs.declared.judge.Stepped.{Stepped}
-use Rattle.clausetext.specs.declared.judge.Stepped.TheVariants.{Next, Stuck}
-use Rattle.clausetext.specs.declared.judge.Verdict.{Verdict}
-use Rattle.clausetext.specs.declared.judge.Verdict.TheVariants.{Wrong, Fine}
 use Rattle.clausetext.specs.Kinds.{kind_of, sign_kind, letter_kind, goes_on}
 use Rattle.clausetext.specs.Syntax.{Role}
 use Rattle.clausetext.specs.Tokens.{word_ahead, Word, ends, goes, nothing, stops}
-use Rattle.clausetext.specs.Texts.{all_bytes}
+use Rattle.clausetext.specs.Texts.{counts, Verdict, all_bytes}
 use Rattle.clausetext.specs.Judging.{words, owed_at, row, signed, on_sign, on_ended, on_role, on_lower, on_upper, on_kind, on_byte, step_of, settled, may_end, finished, onward, run}
 use Rattle.clausetext.proofs.Following.{rest_over, nothing_left}
 use Rattle.clausetext.proofs.Steps.{up_to_dot, owed_from, owed_is, owed_none, Along, between, remark, in_word, owing, tallied, asked, From, state, Goes, step_goes, Before, step_before}
@@ -72,15 +69,15 @@ over_along (Ended d p) m e = false_not_true e
 over_along Closing m e = false_not_true e
 over_along Stop m e = false_not_true e
 
-end_fine : (s : State) (b : Bool) (at : ℕ) (total : Verdict) → may_end s.want s.mode ≡ b → cond b (Fine s.clauses s.questions) (Wrong at) ≡ total → (p : (at : ℕ) → total ≡ Wrong at → ⊥) → From s [] total
+end_fine : (s : State) (b : Bool) (at : ℕ) (total : Verdict) → may_end s.want s.mode ≡ b → cond b (counts s.clauses s.questions) (Err at) ≡ total → (p : (at : ℕ) → total ≡ Err at → ⊥) → From s [] total
 unfolding tallied
 end_fine s true at total e t p = record { roles = []; along = over_along s.want s.mode e; tally = t }
 end_fine s false at total e t p = absurd (p at (sym t))
 
 -- read to the end
-onward_goes : (text : List ℕ) (total : Verdict) (at : ℕ) (next : State → Verdict) → ((s : State) → From s text total → next s ≡ total) → (t : Stepped) → Goes text total t → onward t at next ≡ total
-onward_goes text total at next h (Next s) f = h s f
-onward_goes text total at next h Stuck f = absurd f
+onward_goes : (text : List ℕ) (total : Verdict) (at : ℕ) (next : State → Verdict) → ((s : State) → From s text total → next s ≡ total) → (t : Option State) → Goes text total t → onward t at next ≡ total
+onward_goes text total at next h (Some s) f = h s f
+onward_goes text total at next h None f = absurd f
 
 pub run_goes : (text : List ℕ) (s : State) (at : ℕ) (total : Verdict) → From s text total → run s at text ≡ total
 unfolding run
@@ -88,16 +85,16 @@ run_goes [] s at total f = end_goes s at total f
 run_goes (c ∷ text) s at total f =
     onward_goes text total at (λ t. run t (at + 1) text) (λ t. run_goes text t (at + 1) total) (step_of s c) (step_goes s c text total f)
 
-onward_fine : (s : State) (c : ℕ) (text : List ℕ) (at n q : ℕ) (next : State → Verdict) → ((t : State) → next t ≡ Fine n q → From t text (Fine n q)) → (t : Stepped) → Before s c t → onward t at next ≡ Fine n q → From s (c ∷ text) (Fine n q)
-onward_fine s c text at n q next h (Next t) b e = b text (Fine n q) (h t e)
-onward_fine s c text at n q next h Stuck b e = let z : ◌≡◌ {A = ℕ} 0 1 = cc in absurd (omega arith)
+onward_fine : (s : State) (c : ℕ) (text : List ℕ) (at n q : ℕ) (next : State → Verdict) → ((t : State) → next t ≡ counts n q → From t text (counts n q)) → (t : Option State) → Before s c t → onward t at next ≡ counts n q → From s (c ∷ text) (counts n q)
+onward_fine s c text at n q next h (Some t) b e = b text (counts n q) (h t e)
+onward_fine s c text at n q next h None b e = let z : ◌≡◌ {A = ℕ} 0 1 = cc in absurd (omega arith)
 
-fine_not_wrong : (n q at : ℕ) → Fine n q ≡ Wrong at → ⊥
+fine_not_wrong : (n q at : ℕ) → counts n q ≡ Err at → ⊥
 fine_not_wrong n q at e = let z : ◌≡◌ {A = ℕ} 0 1 = cc in omega arith
 
-pub run_fine : (text : List ℕ) (s : State) (at n q : ℕ) → run s at text ≡ Fine n q → From s text (Fine n q)
+pub run_fine : (text : List ℕ) (s : State) (at n q : ℕ) → run s at text ≡ counts n q → From s text (counts n q)
 unfolding run finished
-run_fine [] s at n q e = end_fine s (may_end s.want s.mode) at (Fine n q) refl e (fine_not_wrong n q)
+run_fine [] s at n q e = end_fine s (may_end s.want s.mode) at (counts n q) refl e (fine_not_wrong n q)
 run_fine (c ∷ text) s at n q e =
     onward_fine s c text at n q (λ t. run t (at + 1) text) (λ t. run_fine text t (at + 1) n q) (step_of s c) (step_before s c) e
 
@@ -124,7 +121,7 @@ more_bytes : (c : ℕ) (text : List ℕ) → ltb c 256 ≡ true → all_bytes te
 unfolding all_bytes
 more_bytes c text = both_true (ltb c 256) (all_bytes text)
 
-live_by : (s : State) (c : ℕ) (t : State) → ltb c 256 ≡ true → step_of s c ≡ Next t → Live t → Live s
+live_by : (s : State) (c : ℕ) (t : State) → ltb c 256 ≡ true → step_of s c ≡ Some t → Live t → Live s
 live_by s c t b e l =
     record {
       further = c ∷ l.further;
@@ -140,7 +137,7 @@ opened = tt
 module _ (n q : ℕ) where
   live-clause : Live (state NextClause Between n q)
   unfolding tallied all_bytes
-  live-clause = record { further = []; bytes = refl; total = Fine n q; from = record { roles = []; along = between nothing_left nothing; tally = refl } }
+  live-clause = record { further = []; bytes = refl; total = counts n q; from = record { roles = []; along = between nothing_left nothing; tally = refl } }
 
   live-stop : Live (state Stop Between n q)
   unfolding opened
@@ -166,7 +163,7 @@ module _ (n q : ℕ) where
   live-symbol zero false = live_by (state (Symbol 0 false) Between n q) 41 (state Stop Between n q) refl refl live-stop
   live-symbol (suc d) p = live_by (state (Symbol (suc d) p) Between n q) 41 (state (Ended d p) Between n q) refl refl (live-ended d p)
 
-  live-name : (v u : Want) → step_of (state v Between n q) 112 ≡ Next (state u InWord n q) → Live (state u Between n q) → Live (state v Between n q)
+  live-name : (v u : Want) → step_of (state v Between n q) 112 ≡ Some (state u InWord n q) → Live (state u Between n q) → Live (state v Between n q)
   live-name v u e l = live_by (state v Between n q) 112 (state u InWord n q) refl e (live-word u l)
 
   live-term : (d : ℕ) (p : Bool) → Live (state (NextTerm d p) Between n q)
@@ -315,19 +312,19 @@ pub record FailsAt (s : State) (text : List ℕ) (at place : ℕ) : Type 0 where
   pub place_is : place ≡ at + passed
   pub there : Fails s text passed
 
-always_fine : (n q place : ℕ) (rs : List Role) → tallied n q rs ≡ Wrong place → ⊥
+always_fine : (n q place : ℕ) (rs : List Role) → tallied n q rs ≡ Err place → ⊥
 unfolding tallied
 always_fine n q place [] e = fine_not_wrong n q place e
 always_fine n q place (r ∷ rs) e = always_fine (n + 1) (asked r q) place rs e
 
-never_wrong : (s : State) (text : List ℕ) (place : ℕ) → From s text (Wrong place) → ⊥
+never_wrong : (s : State) (text : List ℕ) (place : ℕ) → From s text (Err place) → ⊥
 never_wrong s text place f = always_fine s.clauses s.questions place f.roles f.tally
 
-wrong_here : (b : Bool) (n q at place : ℕ) → cond b (Fine n q) (Wrong at) ≡ Wrong place → place ≡ at + 0
+wrong_here : (b : Bool) (n q at place : ℕ) → cond b (counts n q) (Err at) ≡ Err place → place ≡ at + 0
 wrong_here true n q at place e = absurd (fine_not_wrong n q place e)
 wrong_here false n q at place e = let f : at ≡ place = cc in omega arith
 
-end_fails : (s : State) (at place : ℕ) → finished s at ≡ Wrong place → FailsAt s [] at place
+end_fails : (s : State) (at place : ℕ) → finished s at ≡ Err place → FailsAt s [] at place
 unfolding finished
 end_fails s at place e =
     let l = live s in
@@ -344,9 +341,9 @@ end_fails s at place e =
       };
     }
 
-onward_fails : (s : State) (c : ℕ) (text : List ℕ) (at place : ℕ) (next : State → Verdict) → ((u : State) → next u ≡ Wrong place → FailsAt u text (at + 1) place) → (t : Stepped) → Before s c t
-    → ((after : List ℕ) (total : Verdict) → From s (c ∷ after) total → Goes after total t) → onward t at next ≡ Wrong place → FailsAt s (c ∷ text) at place
-onward_fails s c text at place next h (Next u) b g e =
+onward_fails : (s : State) (c : ℕ) (text : List ℕ) (at place : ℕ) (next : State → Verdict) → ((u : State) → next u ≡ Err place → FailsAt u text (at + 1) place) → (t : Option State) → Before s c t
+    → ((after : List ℕ) (total : Verdict) → From s (c ∷ after) total → Goes after total t) → onward t at next ≡ Err place → FailsAt s (c ∷ text) at place
+onward_fails s c text at place next h (Some u) b g e =
     let i = h u e in
     let f = i.there in
     let z = i.place_is in
@@ -362,7 +359,7 @@ onward_fails s c text at place next h (Next u) b g e =
         short = λ k t a. f.short (omega arith) t (g text t a);
       };
     }
-onward_fails s c text at place next h Stuck b g e =
+onward_fails s c text at place next h None b g e =
     let l = live s in
     record {
       passed = 0;
@@ -377,7 +374,7 @@ onward_fails s c text at place next h Stuck b g e =
       };
     }
 
-pub run_wrong : (text : List ℕ) (s : State) (at place : ℕ) → run s at text ≡ Wrong place → FailsAt s text at place
+pub run_wrong : (text : List ℕ) (s : State) (at place : ℕ) → run s at text ≡ Err place → FailsAt s text at place
 unfolding run
 run_wrong [] s at place e = end_fails s at place e
 run_wrong (c ∷ text) s at place e =
@@ -388,10 +385,10 @@ pub record Reached (s : State) (begun : List ℕ) : Type 0 where
   pub state_there : State
   pub back : (text : List ℕ) (total : Verdict) → From state_there text total → From s (begun ++ text) total
 
-reached_by : (s : State) (c : ℕ) (begun : List ℕ) (t : Stepped) (after : List ℕ) (total : Verdict) → Before s c t → ((u : State) → From u after total → Reached u begun) → Goes after total t → Reached s (c ∷ begun)
-reached_by s c begun (Next u) after total b h f =
+reached_by : (s : State) (c : ℕ) (begun : List ℕ) (t : Option State) (after : List ℕ) (total : Verdict) → Before s c t → ((u : State) → From u after total → Reached u begun) → Goes after total t → Reached s (c ∷ begun)
+reached_by s c begun (Some u) after total b h f =
     let r = h u f in record { state_there = r.state_there; back = λ text t g. b (begun ++ text) t (r.back text t g) }
-reached_by s c begun Stuck after total b h f = absurd f
+reached_by s c begun None after total b h f = absurd f
 
 pub reached : (begun after : List ℕ) (s : State) (total : Verdict) → From s (begun ++ after) total → Reached s begun
 reached [] after s total f = record { state_there = s; back = λ text t g. g }

@@ -1,4 +1,6 @@
 -- One byte of a text: it leads from a state to the next one exactly where it may follow.
+use Rattle.std.specs.Prelude.{Option, Some, None}
+use Rattle.clausetext.specs.Texts.{counts, Verdict}
 use mathlib.Core.Path.{◌≡◌, refl, ap, ◌∙◌}
 use mathlib.Core.Bool.{Bool, true, false, cond}
 use mathlib.Core.List.{List, [], ◌∷◌}
@@ -16,12 +18,6 @@ use Rattle.clausetext.specs.declared.judge.Want.TheVariants.{Clause as NextClaus
 use Rattle.clausetext.specs.declared.judge.Mode.{Mode}
 use Rattle.clausetext.specs.declared.judge.Mode.TheVariants.{Between, Comment, Word as InWord, Owed}
 use Rattle.clausetext.specs.declared.judge.State.{State}
-use Rattle.clausetext.specs.declared.judge.Went.{Went}
-use Rattle.clausetext.specs.declared.judge.Went.TheVariants.{To, Nowhere}
-use Rattle.clausetext.specs.declared.judge.Stepped.{Stepped}
-use Rattle.clausetext.specs.declared.judge.Stepped.TheVariants.{Next, Stuck}
-use Rattle.clausetext.specs.declared.judge.Verdict.{Verdict}
-use Rattle.clausetext.specs.declared.judge.Verdict.TheVariants.{Fine}
 use Rattle.clausetext.specs.Kinds.{kind_of, sign_kind, goes_on}
 use Rattle.clausetext.specs.Syntax.{Role, Axiom, Hypothesis, NegatedConjecture, role_name}
 use Rattle.clausetext.specs.Tokens.{Token, mark, word_ahead, Word, ends, goes, Spelt, blank, comment, sign, lower, upper, Remark, closes, further}
@@ -50,7 +46,7 @@ asked Hypothesis q = q
 asked NegatedConjecture q = q + 1
 
 unfoldable pub tallied : ℕ → ℕ → List Role → Verdict
-tallied n q [] = Fine n q
+tallied n q [] = counts n q
 tallied n q (r ∷ rs) = tallied (n + 1) (asked r q) rs
 
 -- the bytes may follow, and the counts are then these
@@ -59,16 +55,16 @@ pub record From (s : State) (text : List ℕ) (total : Verdict) : Type 0 where
   pub along : Along s.want s.mode text roles
   pub tally : tallied s.clauses s.questions roles ≡ total
 
-abbrev pub Goes : List ℕ → Verdict → Stepped → Type 0
-Goes text total (Next s) = From s text total
-Goes text total Stuck = ⊥
+abbrev pub Goes : List ℕ → Verdict → Option State → Type 0
+Goes text total (Some s) = From s text total
+Goes text total None = ⊥
 
 -- forwards
 module _ (s : State) (text : List ℕ) (total : Verdict) where
-  signed-goes : {ts : List Token} (rs : List Role) (u : Went) → tallied s.clauses s.questions rs ≡ total → Led ts rs u → Spelt ts text → Goes text total (signed s u)
+  signed-goes : {ts : List Token} (rs : List Role) (u : Option Want) → tallied s.clauses s.questions rs ≡ total → Led ts rs u → Spelt ts text → Goes text total (signed s u)
   unfolding signed
-  signed-goes rs (To u) e r sp = record { roles = rs; along = between r sp; tally = e }
-  signed-goes rs Nowhere e r sp = r
+  signed-goes rs (Some u) e r sp = record { roles = rs; along = between r sp; tally = e }
+  signed-goes rs None e r sp = r
 
   role-goes : {c : ℕ} {w rest : List ℕ} {ts : List Token} {rs : List Role} (r : Role) → c ∷ w ≡ role_name r → tallied s.clauses s.questions (r ∷ rs) ≡ total → Rest AfterRole ts rs → Word w text rest → Spelt ts rest
       → Goes text total (on_role s c)
@@ -149,11 +145,11 @@ module _ (s : State) (c : ℕ) (text : List ℕ) (total : Verdict) where
   step_goes f = byte-goes s.mode f.tally f.along
 
 -- backwards
-abbrev pub Before : State → ℕ → Stepped → Type 0
-Before s c (Next t) = (text : List ℕ) (total : Verdict) → From t text total → From s (c ∷ text) total
-Before s c Stuck = Unit {0}
+abbrev pub Before : State → ℕ → Option State → Type 0
+Before s c (Some t) = (text : List ℕ) (total : Verdict) → From t text total → From s (c ∷ text) total
+Before s c None = Unit {0}
 
-before_cond : (s : State) (c : ℕ) (b : Bool) (x y : Stepped) → (b ≡ true → Before s c x) → (b ≡ false → Before s c y) → Before s c (cond b x y)
+before_cond : (s : State) (c : ℕ) (b : Bool) (x y : Option State) → (b ≡ true → Before s c x) → (b ≡ false → Before s c y) → Before s c (cond b x y)
 before_cond s c true x y f g = f refl
 before_cond s c false x y f g = g refl
 
@@ -180,10 +176,10 @@ abbrev pub state : Want → Mode → ℕ → ℕ → State
 state v m n q = record { want = v; mode = m; clauses = n; questions = q }
 
 module _ (n q c : ℕ) (md : Mode) where
-  signed-before : (v : Want) (m : Mark) → kind_of c ≡ Sign m → (u : Went) → Leading v m u → Before (state v Between n q) c (signed (state v md n q) u)
+  signed-before : (v : Want) (m : Mark) → kind_of c ≡ Sign m → (u : Option Want) → Leading v m u → Before (state v Between n q) c (signed (state v md n q) u)
   unfolding signed
-  signed-before v m k (To u) l = λ text total f. record { roles = f.roles; along = along_sign k l f.along; tally = f.tally }
-  signed-before v m k Nowhere l = tt
+  signed-before v m k (Some u) l = λ text total f. record { roles = f.roles; along = along_sign k l f.along; tally = f.tally }
+  signed-before v m k None l = tt
 
   role-begun : (r : Role) (i : ℕ) → c ∷ owed_from i ≡ role_name r → kind_of c ≡ Lower → (text : List ℕ) (total : Verdict) → From (state AfterRole (Owed i) (n + 1) (asked r q)) text total → From (state NextRole Between n q) (c ∷ text) total
   unfolding tallied
@@ -275,14 +271,14 @@ along_paid : {v : Want} {i c : ℕ} {text : List ℕ} {rs : List Role} → goes_
 unfolding word_ahead
 along_paid {i = i} k e (between r sp) = let h : [] ≡ owed_from i = rw (owed_is i, e) in owing h (ends k) r sp
 
-lifted : (v : Want) (n q c : ℕ) (m : Mode) (t : Stepped) → ((text : List ℕ) (rs : List Role) → Along v Between (c ∷ text) rs → Along v m (c ∷ text) rs) → Before (state v Between n q) c t → Before (state v m n q) c t
-lifted v n q c m (Next t) g b =
+lifted : (v : Want) (n q c : ℕ) (m : Mode) (t : Option State) → ((text : List ℕ) (rs : List Role) → Along v Between (c ∷ text) rs → Along v m (c ∷ text) rs) → Before (state v Between n q) c t → Before (state v m n q) c t
+lifted v n q c m (Some t) g b =
     λ text total f. let a = b text total f in record { roles = a.roles; along = g text a.roles a.along; tally = a.tally }
-lifted v n q c m Stuck g b = tt
+lifted v n q c m None g b = tt
 
 module _ (v : Want) (n q c : ℕ) where
   owed-before : (i : ℕ) (k : Bool) → goes_on (kind_of c) ≡ k → Before (state v (Owed i) n q) c
-      (cond k (cond (eqb c (owed_at i)) (Next (state v (Owed (i + 1)) n q)) Stuck) (cond (eqb (owed_at i) 46) (on_kind (state v (Owed i) n q) c (kind_of c)) Stuck))
+      (cond k (cond (eqb c (owed_at i)) (Some (state v (Owed (i + 1)) n q)) None) (cond (eqb (owed_at i) 46) (on_kind (state v (Owed i) n q) c (kind_of c)) None))
   owed-before i true k =
       before_cond (state v (Owed i) n q) c (eqb c (owed_at i)) _ _
       (λ e text total f. record { roles = f.roles; along = along_owed k (eqb-true c (owed_at i) e) f.along; tally = f.tally })
@@ -292,7 +288,7 @@ module _ (v : Want) (n q c : ℕ) where
       (λ e. lifted v n q c (Owed i) (on_kind (state v (Owed i) n q) c (kind_of c)) (λ text rs. along_paid k e) (kind_before n q c (Owed i) v (kind_of c) refl))
       (λ _. tt)
 
-  word-before : (k : Bool) → goes_on (kind_of c) ≡ k → Before (state v InWord n q) c (cond k (Next (state v InWord n q)) (on_kind (state v InWord n q) c (kind_of c)))
+  word-before : (k : Bool) → goes_on (kind_of c) ≡ k → Before (state v InWord n q) c (cond k (Some (state v InWord n q)) (on_kind (state v InWord n q) c (kind_of c)))
   word-before true k = λ text total f. record { roles = f.roles; along = along_goes k f.along; tally = f.tally }
   word-before false k =
       lifted v n q c InWord (on_kind (state v InWord n q) c (kind_of c)) (λ text rs. along_ends k) (kind_before n q c InWord v (kind_of c) refl)

@@ -1,4 +1,5 @@
 -- A text followed to where it cannot go on, one law for each outcome, with premises as the code has them.
+use Rattle.std.specs.Prelude.{Option, Some, None}
 use mathlib.Core.Path.{◌≡◌, refl, sym, ◌∙◌}
 use mathlib.Core.List.{List}
 use Prim.Native.Nat.{ℕ, ◌+◌, ◌^◌, ◌≤◌, ◌<◌}
@@ -7,8 +8,6 @@ use native.Mathlib.Numerals.{add-one}
 use lib.ListN.{length, drop, get_or, drop_of_length-le}
 use borrow.Author.Tests.{eq-eqb, ne_eqb}
 use Rattle.clausetext.specs.declared.judge.State.{State}
-use Rattle.clausetext.specs.declared.judge.Stepped.{Stepped}
-use Rattle.clausetext.specs.declared.judge.Stepped.TheVariants.{Next, Stuck}
 use Rattle.clausetext.specs.Judging.{Room, step_of, start}
 use Rattle.clausetext.specs.Stuck.{stuck_in, name_begun, question_from}
 use Rattle.clausetext.proofs.JudgeLoop.{Small, step_grown}
@@ -33,12 +32,12 @@ module _ {text : List ℕ} {s : State} {at : ℕ} (g : Following text s at) wher
   unfolding stuck_in
   follow_over h = sym (g.same ∙ rw (drop_of_length-le text h))
 
-  module _ (h : at < length text) {t : Stepped} (e : t ≡ step_of s (get_or text at 0)) where
-    pub follow_stuck : t ≡ Stuck → s ≡ stuck_in start text
+  module _ (h : at < length text) {t : Option State} (e : t ≡ step_of s (get_or text at 0)) where
+    pub follow_stuck : t ≡ None → s ≡ stuck_in start text
     unfolding stuck_in
     follow_stuck f = sym (g.same ∙ rw (from_place text at h, sym e ∙ f))
 
-    pub follow_next : {u : State} → t ≡ Next u → Following text u (at + 1)
+    pub follow_next : {u : State} → t ≡ Some u → Following text u (at + 1)
     unfolding stuck_in
     follow_next f =
         let k = step_grown g.small (get_or text at 0) (sym f ∙ e) in
@@ -62,12 +61,12 @@ module _ {text : List ℕ} {many : ℕ} {s : State} {at name : ℕ} (g : Seeking
   unfolding question_from
   seek_over h = sym (g.same ∙ rw (drop_of_length-le text h))
 
-  module _ (h : at < length text) {t : Stepped} (e : t ≡ step_of s (get_or text at 0)) where
-    pub seek_stuck : t ≡ Stuck → at ≡ question_from many start 0 0 text
+  module _ (h : at < length text) {t : Option State} (e : t ≡ step_of s (get_or text at 0)) where
+    pub seek_stuck : t ≡ None → at ≡ question_from many start 0 0 text
     unfolding question_from
     seek_stuck f = sym (g.same ∙ rw (from_place text at h, sym e ∙ f))
 
-    module _ {u : State} (f : t ≡ Next u) {n : ℕ} (b : n ≡ name_begun s.want at name) where
+    module _ {u : State} (f : t ≡ Some u) {n : ℕ} (b : n ≡ name_begun s.want at name) where
       pub seek_found : u.questions ≡ many → n ≡ question_from many start 0 0 text
       unfolding question_from
       seek_found q = b ∙ sym (g.same ∙ rw (from_place text at h, sym e ∙ f, eq-eqb u.questions many q))

@@ -1,5 +1,6 @@
 -- Through the tokens of a text: where the text from a position on is a token and then others, the next token found is that one,
 -- and from its end on the text is the others.
+use Rattle.std.specs.Prelude.{Option, Some, None}
 use mathlib.Core.Path.{◌≡◌, refl, sym, ap, ◌∙◌}
 use mathlib.Core.Bool.{Bool, true, false}
 use mathlib.Core.List.{List, [], ◌∷◌}
@@ -11,7 +12,7 @@ use borrow.Author.Tests.{eq-eqb, ne_eqb}
 use Rattle.clausetext.specs.declared.kind.Mark.{Mark}
 use Rattle.clausetext.specs.declared.kind.Kind.TheVariants.{Blank, Percent, Lower, Upper, Sign}
 use Rattle.clausetext.specs.declared.token.Lexeme.{Lexeme}
-use Rattle.clausetext.specs.declared.token.Lexeme.TheVariants.{Word as Lettered, Capital, Sign as Single, Over}
+use Rattle.clausetext.specs.declared.token.Lexeme.TheVariants.{Word as Lettered, Capital, Sign as Single}
 use Rattle.clausetext.specs.Kinds.{kind_of, goes_on}
 use Rattle.clausetext.specs.Tokens.{Token, word, capital, mark, word_ahead, Word, ends, goes, Spelt, nothing, blank, comment, sign, lower, upper, Remark, stops, closes, further}
 use Rattle.clausetext.specs.Lexemes.{word_length, lexeme_from, lexeme_at}
@@ -65,13 +66,13 @@ module _ (c : ℕ) (text : List ℕ) (at : ℕ) where
   unfolding lexeme_from
   remark-passed k = rw (ne_eqb c 10 k)
 
-nothing_found : (remark : Bool) (at : ℕ) → lexeme_from remark at [] ≡ Over
+nothing_found : (remark : Bool) (at : ℕ) → lexeme_from remark at [] ≡ None
 unfolding lexeme_from
 nothing_found remark at = refl
 
 -- what is found in a text of these tokens
 abbrev Coming : Bool → List Token → ℕ → List ℕ → Type 0
-Coming remark [] at text = lexeme_from remark at text ≡ Over
+Coming remark [] at text = lexeme_from remark at text ≡ None
 Coming remark (t ∷ ts) at text = Ahead remark t ts at text
 
 coming_later : (remark inside : Bool) (ts : List Token) (at c : ℕ) (text : List ℕ) → lexeme_from remark at (c ∷ text) ≡ lexeme_from inside (at + 1) text → Coming inside ts (at + 1) text → Coming remark ts at (c ∷ text)
@@ -133,11 +134,11 @@ pub record SignFound (text : List ℕ) (at : ℕ) (ts : List Token) (next : ℕ)
   pub left : Spelt ts (drop next text)
 
 -- the token found is the first one
-pub data Met (text : List ℕ) (at : ℕ) : List Token → Lexeme → Type 0 where
-  over : Met text at [] Over
-  lettered : {w : List ℕ} {ts : List Token} {start stop : ℕ} → WordFound text at w ts start stop → Met text at (word w ∷ ts) (Lettered start stop)
-  titled : {x : List ℕ} {ts : List Token} {start stop : ℕ} → WordFound text at x ts start stop → Met text at (capital x ∷ ts) (Capital start stop)
-  single : {m : Mark} {ts : List Token} {next : ℕ} → SignFound text at ts next → Met text at (mark m ∷ ts) (Single m next)
+pub data Met (text : List ℕ) (at : ℕ) : List Token → Option Lexeme → Type 0 where
+  over : Met text at [] None
+  lettered : {w : List ℕ} {ts : List Token} {start stop : ℕ} → WordFound text at w ts start stop → Met text at (word w ∷ ts) (Some (Lettered start stop))
+  titled : {x : List ℕ} {ts : List Token} {start stop : ℕ} → WordFound text at x ts start stop → Met text at (capital x ∷ ts) (Some (Capital start stop))
+  single : {m : Mark} {ts : List Token} {next : ℕ} → SignFound text at ts next → Met text at (mark m ∷ ts) (Some (Single m next))
 
 module _ (text : List ℕ) (at gap c : ℕ) (rest : List ℕ) (there : drop gap (drop at text) ≡ c ∷ rest) where
   started : drop (at + gap) text ≡ c ∷ rest

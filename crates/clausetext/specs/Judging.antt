@@ -1,5 +1,5 @@
 -- The judgement of a text, byte by byte: machinery. What it says is in proofs/Judgement, in the words of Texts.
-use Rattle.std.specs.Prelude.{Bool, true, false, cond, List, [], ◌∷◌, ℕ, zero, suc, ◌+◌, ◌^◌, ◌<◌, eqb, ltb, length, get_or}
+use Rattle.std.specs.Prelude.{Option, Some, None, Err, Bool, true, false, cond, List, [], ◌∷◌, ℕ, zero, suc, ◌+◌, ◌^◌, ◌<◌, eqb, ltb, length, get_or}
 use Rattle.clausetext.specs.declared.kind.Mark.{Mark}
 use Rattle.clausetext.specs.declared.kind.Mark.TheVariants.{Open, Close, Comma, Bar, Tilde, Dot}
 use Rattle.clausetext.specs.declared.kind.Kind.{Kind}
@@ -9,14 +9,9 @@ use Rattle.clausetext.specs.declared.judge.Want.TheVariants.{Clause, Opening, Na
 use Rattle.clausetext.specs.declared.judge.Mode.{Mode}
 use Rattle.clausetext.specs.declared.judge.Mode.TheVariants.{Between, Comment, Word, Owed}
 use Rattle.clausetext.specs.declared.judge.State.{State}
-use Rattle.clausetext.specs.declared.judge.Went.{Went}
-use Rattle.clausetext.specs.declared.judge.Went.TheVariants.{To, Nowhere}
-use Rattle.clausetext.specs.declared.judge.Stepped.{Stepped}
-use Rattle.clausetext.specs.declared.judge.Stepped.TheVariants.{Next, Stuck}
-use Rattle.clausetext.specs.declared.judge.Verdict.{Verdict}
-use Rattle.clausetext.specs.declared.judge.Verdict.TheVariants.{Wrong, Fine}
 use Rattle.clausetext.specs.Kinds.{kind_of, goes_on}
 use Rattle.clausetext.specs.Syntax.{ascii}
+use Rattle.clausetext.specs.Texts.{counts, Verdict}
 
 abbrev pub words : List ℕ
 words = ascii "cnf.axiom.hypothesis.negated_conjecture."
@@ -26,7 +21,7 @@ unfoldable pub owed_at : ℕ → ℕ
 owed_at i = get_or words i 46
 
 -- a state's row of the table: where each sign leads
-unfoldable pub row : Mark → Went → Went → Went → Went → Went → Went → Went
+unfoldable pub row : Mark → Option Want → Option Want → Option Want → Option Want → Option Want → Option Want → Option Want
 row Open o c k b t d = o
 row Close o c k b t d = c
 row Comma o c k b t d = k
@@ -38,26 +33,26 @@ abbrev pub outside : Bool → Want
 outside true = Closing
 outside false = Stop
 
-unfoldable pub on_ended : ℕ → Bool → Mark → Went
-on_ended zero p m = row m Nowhere (To (outside p)) Nowhere (To (Literal p)) Nowhere Nowhere
-on_ended (suc d) p m = row m Nowhere (To (Ended d p)) (To (Term d p)) Nowhere Nowhere Nowhere
+unfoldable pub on_ended : ℕ → Bool → Mark → Option Want
+on_ended zero p m = row m None (Some (outside p)) None (Some (Literal p)) None None
+on_ended (suc d) p m = row m None (Some (Ended d p)) (Some (Term d p)) None None None
 
-unfoldable pub on_sign : Want → Mark → Went
-on_sign Clause m = Nowhere
-on_sign Opening m = row m (To Name) Nowhere Nowhere Nowhere Nowhere Nowhere
-on_sign Name m = Nowhere
-on_sign AfterName m = row m Nowhere Nowhere (To Role) Nowhere Nowhere Nowhere
-on_sign Role m = Nowhere
-on_sign AfterRole m = row m Nowhere Nowhere (To Formula) Nowhere Nowhere Nowhere
-on_sign Formula m = row m (To (Literal true)) Nowhere Nowhere Nowhere (To (Atom false)) Nowhere
-on_sign (Literal p) m = row m Nowhere Nowhere Nowhere Nowhere (To (Atom p)) Nowhere
-on_sign (Atom p) m = Nowhere
+unfoldable pub on_sign : Want → Mark → Option Want
+on_sign Clause m = None
+on_sign Opening m = row m (Some Name) None None None None None
+on_sign Name m = None
+on_sign AfterName m = row m None None (Some Role) None None None
+on_sign Role m = None
+on_sign AfterRole m = row m None None (Some Formula) None None None
+on_sign Formula m = row m (Some (Literal true)) None None None (Some (Atom false)) None
+on_sign (Literal p) m = row m None None None None (Some (Atom p)) None
+on_sign (Atom p) m = None
 on_sign (Symbol d p) m =
-    row m (To (Term d p)) (on_ended d p m) (on_ended d p m) (on_ended d p m) (on_ended d p m) (on_ended d p m)
-on_sign (Term d p) m = Nowhere
+    row m (Some (Term d p)) (on_ended d p m) (on_ended d p m) (on_ended d p m) (on_ended d p m) (on_ended d p m)
+on_sign (Term d p) m = None
 on_sign (Ended d p) m = on_ended d p m
-on_sign Closing m = row m Nowhere (To Stop) Nowhere Nowhere Nowhere Nowhere
-on_sign Stop m = row m Nowhere Nowhere Nowhere Nowhere Nowhere (To Clause)
+on_sign Closing m = row m None (Some Stop) None None None None
+on_sign Stop m = row m None None None None None (Some Clause)
 
 -- numbers that can grow by one
 abbrev pub depth_of : Want → ℕ
@@ -82,79 +77,79 @@ pub record Room (s : State) : Type 0 where
   pub asking : s.questions < 2 ^ 63
 
 -- a state with another want and mode
-abbrev pub moved : State → Want → Mode → Stepped
-moved s v m = Next (record { want = v; mode = m; clauses = s.clauses; questions = s.questions })
+abbrev pub moved : State → Want → Mode → Option State
+moved s v m = Some (record { want = v; mode = m; clauses = s.clauses; questions = s.questions })
 
-unfoldable pub signed : State → Went → Stepped
-signed s (To v) = moved s v Between
-signed s Nowhere = Stuck
+unfoldable pub signed : State → Option Want → Option State
+signed s (Some v) = moved s v Between
+signed s None = None
 
 -- a role is known by its first byte
-unfoldable pub on_role : State → ℕ → Stepped
+unfoldable pub on_role : State → ℕ → Option State
 on_role s c =
     cond (eqb c 97)
-    (Next (record { want = AfterRole; mode = Owed 5; clauses = s.clauses + 1; questions = s.questions }))
+    (Some (record { want = AfterRole; mode = Owed 5; clauses = s.clauses + 1; questions = s.questions }))
     (cond (eqb c 104)
-    (Next (record { want = AfterRole; mode = Owed 11; clauses = s.clauses + 1; questions = s.questions }))
+    (Some (record { want = AfterRole; mode = Owed 11; clauses = s.clauses + 1; questions = s.questions }))
     (cond (eqb c 110)
-    (Next (record { want = AfterRole; mode = Owed 22; clauses = s.clauses + 1; questions = s.questions + 1 }))
-    Stuck))
+    (Some (record { want = AfterRole; mode = Owed 22; clauses = s.clauses + 1; questions = s.questions + 1 }))
+    None))
 
 -- a lower-case letter between tokens
-unfoldable pub on_lower : State → Want → ℕ → Stepped
-on_lower s Clause c = cond (eqb c 99) (moved s Opening (Owed 1)) Stuck
-on_lower s Opening c = Stuck
+unfoldable pub on_lower : State → Want → ℕ → Option State
+on_lower s Clause c = cond (eqb c 99) (moved s Opening (Owed 1)) None
+on_lower s Opening c = None
 on_lower s Name c = moved s AfterName Word
-on_lower s AfterName c = Stuck
+on_lower s AfterName c = None
 on_lower s Role c = on_role s c
-on_lower s AfterRole c = Stuck
+on_lower s AfterRole c = None
 on_lower s Formula c = moved s (Symbol 0 false) Word
 on_lower s (Literal p) c = moved s (Symbol 0 p) Word
 on_lower s (Atom p) c = moved s (Symbol 0 p) Word
-on_lower s (Symbol d p) c = Stuck
+on_lower s (Symbol d p) c = None
 on_lower s (Term d p) c = moved s (Symbol (suc d) p) Word
-on_lower s (Ended d p) c = Stuck
-on_lower s Closing c = Stuck
-on_lower s Stop c = Stuck
+on_lower s (Ended d p) c = None
+on_lower s Closing c = None
+on_lower s Stop c = None
 
 -- an upper-case letter between tokens
-unfoldable pub on_upper : State → Want → Stepped
-on_upper s Clause = Stuck
-on_upper s Opening = Stuck
-on_upper s Name = Stuck
-on_upper s AfterName = Stuck
-on_upper s Role = Stuck
-on_upper s AfterRole = Stuck
-on_upper s Formula = Stuck
-on_upper s (Literal p) = Stuck
-on_upper s (Atom p) = Stuck
-on_upper s (Symbol d p) = Stuck
+unfoldable pub on_upper : State → Want → Option State
+on_upper s Clause = None
+on_upper s Opening = None
+on_upper s Name = None
+on_upper s AfterName = None
+on_upper s Role = None
+on_upper s AfterRole = None
+on_upper s Formula = None
+on_upper s (Literal p) = None
+on_upper s (Atom p) = None
+on_upper s (Symbol d p) = None
 on_upper s (Term d p) = moved s (Ended (suc d) p) Word
-on_upper s (Ended d p) = Stuck
-on_upper s Closing = Stuck
-on_upper s Stop = Stuck
+on_upper s (Ended d p) = None
+on_upper s Closing = None
+on_upper s Stop = None
 
 -- a byte between tokens
-unfoldable pub on_kind : State → ℕ → Kind → Stepped
+unfoldable pub on_kind : State → ℕ → Kind → Option State
 on_kind s c Blank = moved s s.want Between
 on_kind s c Percent = moved s s.want Comment
 on_kind s c Lower = on_lower s s.want c
 on_kind s c Upper = on_upper s s.want
-on_kind s c Further = Stuck
+on_kind s c Further = None
 on_kind s c (Sign m) = signed s (on_sign s.want m)
-on_kind s c Other = Stuck
+on_kind s c Other = None
 
 -- a byte in a mode
-unfoldable pub on_byte : State → ℕ → Mode → Stepped
+unfoldable pub on_byte : State → ℕ → Mode → Option State
 on_byte s c Between = on_kind s c (kind_of c)
 on_byte s c Comment = moved s s.want (cond (eqb c 10) Between Comment)
 on_byte s c Word = cond (goes_on (kind_of c)) (moved s s.want Word) (on_kind s c (kind_of c))
 on_byte s c (Owed i) =
     cond (goes_on (kind_of c))
-    (cond (eqb c (owed_at i)) (moved s s.want (Owed (i + 1))) Stuck)
-    (cond (eqb (owed_at i) 46) (on_kind s c (kind_of c)) Stuck)
+    (cond (eqb c (owed_at i)) (moved s s.want (Owed (i + 1))) None)
+    (cond (eqb (owed_at i) 46) (on_kind s c (kind_of c)) None)
 
-unfoldable pub step_of : State → ℕ → Stepped
+unfoldable pub step_of : State → ℕ → Option State
 step_of s c = on_byte s c s.mode
 
 -- the text may end here
@@ -181,11 +176,11 @@ may_end Closing m = false
 may_end Stop m = false
 
 unfoldable pub finished : State → ℕ → Verdict
-finished s at = cond (may_end s.want s.mode) (Fine s.clauses s.questions) (Wrong at)
+finished s at = cond (may_end s.want s.mode) (counts s.clauses s.questions) (Err at)
 
-abbrev pub onward : Stepped → ℕ → (State → Verdict) → Verdict
-onward (Next s) at rest = rest s
-onward Stuck at rest = Wrong at
+abbrev pub onward : Option State → ℕ → (State → Verdict) → Verdict
+onward (Some s) at rest = rest s
+onward None at rest = Err at
 
 -- the bytes from a place on, read in a state
 unfoldable pub run : State → ℕ → List ℕ → Verdict
@@ -197,4 +192,4 @@ start = record { want = Clause; mode = Between; clauses = 0; questions = 0 }
 
 -- a text over 65,536 bytes is wrong at 65,536; that is looked at first
 unfoldable pub judged : List ℕ → Verdict
-judged text = cond (ltb 65536 (length text)) (Wrong 65536) (run start 0 text)
+judged text = cond (ltb 65536 (length text)) (Err 65536) (run start 0 text)

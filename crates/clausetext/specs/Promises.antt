@@ -1,23 +1,21 @@
 -- What order 1 (document 02) says of a text's judgement, as statements. Nothing is proved here; proofs/Promises.antt proves each of them.
 -- `judged` is a program over the bytes; what it says is judged by Permitted, Says and WrongAt, which know nothing of how it goes about it.
-use Rattle.std.specs.Prelude.{◌≡◌, true, List, ◌++◌, ◌↔◌, ℕ, ◌≤◌, ◌<◌, length}
-use Rattle.clausetext.specs.declared.judge.Verdict.{Verdict}
-use Rattle.clausetext.specs.declared.judge.Verdict.TheVariants.{Wrong, Fine}
+use Rattle.std.specs.Prelude.{Err, ◌≡◌, true, List, ◌++◌, ◌↔◌, ℕ, ◌≤◌, ◌<◌, length}
 use Rattle.clausetext.specs.Syntax.{Clause}
-use Rattle.clausetext.specs.Texts.{Says, Permitted, CanGoOn, all_bytes, WrongAt, questions, Verdicts}
+use Rattle.clausetext.specs.Texts.{counts, Says, Permitted, CanGoOn, all_bytes, WrongAt, questions, Verdict, Verdicts}
 use Rattle.clausetext.specs.Judging.{judged}
 
 -- A text over 65,536 bytes is refused at 65,536, whatever stands in it.
 abbrev pub LongTextRefused : Type 0
-LongTextRefused = (text : List ℕ) → 65536 < length text → judged text ≡ Wrong 65536
+LongTextRefused = (text : List ℕ) → 65536 < length text → judged text ≡ Err 65536
 
 -- Any other text is refused exactly when it is not permitted.
 abbrev pub RefusedExactly : Type 0
-RefusedExactly = (text : List ℕ) → length text ≤ 65536 → ((place : ℕ) × (judged text ≡ Wrong place)) ↔ (Permitted text → ⊥)
+RefusedExactly = (text : List ℕ) → length text ≤ 65536 → ((place : ℕ) × (judged text ≡ Err place)) ↔ (Permitted text → ⊥)
 
 -- The place is exact: the first byte after which no permitted text can go on, or the text's length where it stops short; and there is one.
 abbrev pub PlaceExactly : Type 0
-PlaceExactly = (text : List ℕ) (place : ℕ) → length text ≤ 65536 → (judged text ≡ Wrong place) ↔ WrongAt text place
+PlaceExactly = (text : List ℕ) (place : ℕ) → length text ≤ 65536 → (judged text ≡ Err place) ↔ WrongAt text place
 
 abbrev pub OnePlace : Type 0
 OnePlace = (text : List ℕ) (j k : ℕ) → WrongAt text j → WrongAt text k → j ≡ k
@@ -28,7 +26,7 @@ OneReading = (text : List ℕ) (cs ds : List Clause) → Says text cs → Says t
 
 abbrev pub CountedExactly : Type 0
 CountedExactly =
-    (text : List ℕ) (cs : List Clause) → length text ≤ 65536 → Says text cs → judged text ≡ Fine (length cs) (questions cs)
+    (text : List ℕ) (cs : List Clause) → length text ≤ 65536 → Says text cs → judged text ≡ counts (length cs) (questions cs)
 
 -- All of it at once: the verdict is the one that the order states.
 abbrev pub VerdictExactly : Type 0

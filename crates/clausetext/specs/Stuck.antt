@@ -1,16 +1,14 @@
 -- Where a text cannot go on, and whose question it asks, byte by byte as Judging has it: for showing a refusal. No promise rests on this.
-use Rattle.std.specs.Prelude.{cond, List, [], ◌∷◌, ℕ, ◌+◌, eqb}
+use Rattle.std.specs.Prelude.{Option, Some, None, cond, List, [], ◌∷◌, ℕ, ◌+◌, eqb}
 use Rattle.clausetext.specs.declared.judge.Want.{Want}
 use Rattle.clausetext.specs.declared.judge.Want.TheVariants.{Clause, Opening, Name, AfterName, Role, AfterRole, Formula, Literal, Atom, Symbol, Term, Ended, Closing, Stop}
 use Rattle.clausetext.specs.declared.judge.State.{State}
-use Rattle.clausetext.specs.declared.judge.Stepped.{Stepped}
-use Rattle.clausetext.specs.declared.judge.Stepped.TheVariants.{Next, Stuck}
 use Rattle.clausetext.specs.Judging.{step_of}
 
 -- what comes after a step, or where it is stuck
-abbrev pub after : {A : Type 0} → Stepped → A → (State → A) → A
-after (Next t) stuck rest = rest t
-after Stuck stuck rest = stuck
+abbrev pub after : {A : Type 0} → Option State → A → (State → A) → A
+after (Some t) stuck rest = rest t
+after None stuck rest = stuck
 
 -- the state in which the bytes cannot go on, or in which they end
 unfoldable pub stuck_in : State → List ℕ → State

@@ -1,7 +1,6 @@
 -- Permitted texts (document 02, order 1), what they say, and what can become one.
-use Rattle.std.specs.Prelude.{◌≡◌, Bool, true, ◌&&◌, List, [], ◌∷◌, ◌++◌, ℕ, ◌+◌, ◌≤◌, ◌<◌, ltb, length, take}
-use Rattle.clausetext.specs.declared.judge.Verdict.{Verdict}
-use Rattle.clausetext.specs.declared.judge.Verdict.TheVariants.{Wrong, Fine}
+use Rattle.std.specs.Prelude.{Result, Ok, Err, ◌≡◌, Bool, true, ◌&&◌, List, [], ◌∷◌, ◌++◌, ℕ, ◌+◌, ◌≤◌, ◌<◌, ltb, length, take}
+use Rattle.clausetext.specs.declared.judge.Counts.{Counts}
 use Rattle.clausetext.specs.Syntax.{Clause, question}
 use Rattle.clausetext.specs.Tokens.{Token, Spelt}
 use Rattle.clausetext.specs.Grammar.{Clauses}
@@ -38,8 +37,15 @@ unfoldable pub questions : List Clause → ℕ
 questions [] = 0
 questions (c ∷ cs) = question c.role + questions cs
 
+-- The numbers of clauses and of questions in a permitted text, or the place where another is wrong.
+abbrev pub Verdict : Type 0
+Verdict = Result Counts ℕ
+
+abbrev pub counts : ℕ → ℕ → Verdict
+counts clauses questions = Ok (record { clauses = clauses; questions = questions })
+
 -- The verdict on a text: a text over 65,536 bytes is wrong at 65,536; any other is wrong at its place, or it is permitted and has so many clauses and questions.
 pub data Verdicts (text : List ℕ) : Verdict → Type 0 where
-  long : 65536 < length text → Verdicts text (Wrong 65536)
-  wrong : {place : ℕ} → length text ≤ 65536 → WrongAt text place → Verdicts text (Wrong place)
-  fine : {cs : List Clause} → length text ≤ 65536 → Says text cs → Verdicts text (Fine (length cs) (questions cs))
+  long : 65536 < length text → Verdicts text (Err 65536)
+  wrong : {place : ℕ} → length text ≤ 65536 → WrongAt text place → Verdicts text (Err place)
+  fine : {cs : List Clause} → length text ≤ 65536 → Says text cs → Verdicts text (counts (length cs) (questions cs))

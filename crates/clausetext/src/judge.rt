@@ -1,6 +1,6 @@
 // A text read byte by byte: whether it is permitted, and where it goes wrong.
 ghost use Rattle.std.specs.Prelude.{◌≡◌, ◌<◌};
-ghost use Rattle.clausetext.specs.Judging.{Room, owed_at, row, outside, on_ended, on_sign, moved, signed, on_role, on_lower, on_upper, on_kind, on_byte, step_of, settled, may_end, finished, judged};
+ghost use Rattle.clausetext.specs.Judging.{Room, owed_at, outside, on_ended, on_sign, moved, signed, on_role, on_lower, on_upper, on_kind, on_byte, step_of, settled, may_end, finished, judged};
 
 use crate::kind;
 use crate::kind::{Kind, Mark};
@@ -48,264 +48,170 @@ pub struct State {
     pub questions: usize,
 }
 
+// The numbers of clauses and of questions in a permitted text.
 #[derive(Clone, Copy)]
-pub enum Went {
-    To(Want),
-    Nowhere,
-}
-
-#[derive(Clone, Copy)]
-pub enum Stepped {
-    Next(State),
-    Stuck,
-}
-
-// The place where a text is wrong; the numbers of clauses and of questions in a permitted one.
-#[derive(Clone, Copy)]
-pub enum Verdict {
-    Wrong(usize),
-    Fine(usize, usize),
+pub struct Counts {
+    pub clauses: usize,
+    pub questions: usize,
 }
 
 const WORDS: [u8; 40] = *b"cnf.axiom.hypothesis.negated_conjecture.";
 
 // The byte owed at a place; `.` where a word is whole.
+#[tactic(auto, using(crate::proofs::JudgeLaws::owed_within, crate::proofs::JudgeLaws::owed_past))]
 fn owed(place: usize) -> u8
     ensures { result ≡ owed_at place }
 {
-    if place < 40 {
-        return WORDS[place];
-    }
-    b'.'
-}
-
-// Where a sign leads, from a row with an entry for each.
-fn pick(
-    mark: Mark,
-    opened: Went,
-    close: Went,
-    comma: Went,
-    bar: Went,
-    tilde: Went,
-    dot: Went,
-) -> Went
-    ensures { result ≡ row mark opened close comma bar tilde dot }
-{
-    match mark {
-        Mark::Open => opened,
-        Mark::Close => close,
-        Mark::Comma => comma,
-        Mark::Bar => bar,
-        Mark::Tilde => tilde,
-        Mark::Dot => dot,
+    if place < WORDS.len() {
+        WORDS[place]
+    } else {
+        b'.'
     }
 }
 
 fn closed(bracketed: bool) -> Want
     ensures { result ≡ outside bracketed }
 {
-    if bracketed {
-        return Want::Closing;
-    }
-    Want::Stop
+    if bracketed { Want::Closing } else { Want::Stop }
 }
 
-// A sign after a whole term or atom.
-fn on_ended(depth: usize, bracketed: bool, mark: Mark) -> Went
+// Where a sign leads after a whole term or atom.
+#[tactic(auto, unfolding(crate::specs::Judging::on_ended, crate::specs::Judging::row))]
+fn on_ended(depth: usize, bracketed: bool, mark: Mark) -> Option<Want>
     ensures { result ≡ on_ended depth bracketed mark }
 {
-    let no = Went::Nowhere;
-    if depth == 0 {
-        return pick(
-            mark,
-            no,
-            Went::To(closed(bracketed)),
-            no,
-            Went::To(Want::Literal(bracketed)),
-            no,
-            no,
-        );
+    match mark {
+        Mark::Close if depth == 0 => Some(closed(bracketed)),
+        Mark::Close => Some(Want::Ended(depth - 1, bracketed)),
+        Mark::Bar if depth == 0 => Some(Want::Literal(bracketed)),
+        Mark::Comma if depth > 0 => Some(Want::Term(depth - 1, bracketed)),
+        _ => None,
     }
-    let outer = depth - 1;
-    pick(
-        mark,
-        no,
-        Went::To(Want::Ended(outer, bracketed)),
-        Went::To(Want::Term(outer, bracketed)),
-        no,
-        no,
-        no,
-    )
 }
 
-// A sign between tokens.
-fn on_sign(want: Want, mark: Mark) -> Went
+// Where a sign between tokens leads.
+#[tactic(auto, unfolding(crate::specs::Judging::on_sign, crate::specs::Judging::row))]
+fn on_sign(want: Want, mark: Mark) -> Option<Want>
     ensures { result ≡ on_sign want mark }
 {
-    let no = Went::Nowhere;
-    match want {
-        Want::Clause => return no,
-        Want::Opening => return pick(mark, Went::To(Want::Name), no, no, no, no, no),
-        Want::Name => return no,
-        Want::AfterName => return pick(mark, no, no, Went::To(Want::Role), no, no, no),
-        Want::Role => return no,
-        Want::AfterRole => return pick(mark, no, no, Went::To(Want::Formula), no, no, no),
-        Want::Formula => {
-            let literal = Went::To(Want::Literal(true));
-            return pick(mark, literal, no, no, no, Went::To(Want::Atom(false)), no);
-        }
-        Want::Literal(bracketed) => {
-            let atom = Went::To(Want::Atom(bracketed));
-            return pick(mark, no, no, no, no, atom, no);
-        }
-        Want::Atom(_) => return no,
-        Want::Symbol(depth, bracketed) => {
-            let term = Went::To(Want::Term(depth, bracketed));
-            let over = on_ended(depth, bracketed, mark);
-            return pick(mark, term, over, over, over, over, over);
-        }
-        Want::Term(_, _) => return no,
-        Want::Ended(depth, bracketed) => return on_ended(depth, bracketed, mark),
-        Want::Closing => return pick(mark, no, Went::To(Want::Stop), no, no, no, no),
-        Want::Stop => return pick(mark, no, no, no, no, no, Went::To(Want::Clause)),
+    match (want, mark) {
+        (Want::Opening, Mark::Open) => Some(Want::Name),
+        (Want::AfterName, Mark::Comma) => Some(Want::Role),
+        (Want::AfterRole, Mark::Comma) => Some(Want::Formula),
+        (Want::Formula, Mark::Open) => Some(Want::Literal(true)),
+        (Want::Formula, Mark::Tilde) => Some(Want::Atom(false)),
+        (Want::Literal(bracketed), Mark::Tilde) => Some(Want::Atom(bracketed)),
+        (Want::Symbol(depth, bracketed), Mark::Open) => Some(Want::Term(depth, bracketed)),
+        (Want::Symbol(depth, bracketed), _) => on_ended(depth, bracketed, mark),
+        (Want::Ended(depth, bracketed), _) => on_ended(depth, bracketed, mark),
+        (Want::Closing, Mark::Close) => Some(Want::Stop),
+        (Want::Stop, Mark::Dot) => Some(Want::Clause),
+        _ => None,
     }
 }
 
-fn move_to(s: State, want: Want, mode: Mode) -> Stepped
-    ensures { result ≡ moved s want mode }
+fn move_to(s: State, want: Want, mode: Mode) -> State
+    ensures { Some result ≡ moved s want mode }
 {
-    Stepped::Next(State {
-        want,
-        mode,
-        clauses: s.clauses,
-        questions: s.questions,
-    })
+    State { want, mode, ..s }
 }
 
 // The first byte of a role.
-fn on_role(s: State, c: u8) -> Stepped
+#[tactic(auto, unfolding(crate::specs::Judging::on_role))]
+fn on_role(s: State, c: u8) -> Option<State>
     requires { Room s }
     ensures { result ≡ on_role s c }
 {
-    let want = Want::AfterRole;
-    let clauses = s.clauses + 1;
-    let questions = s.questions;
-    if c == b'a' {
-        let mode = Mode::Owed(5);
-        return Stepped::Next(State {
-            want,
-            mode,
-            clauses,
-            questions,
-        });
-    }
-    if c == b'h' {
-        let mode = Mode::Owed(11);
-        return Stepped::Next(State {
-            want,
-            mode,
-            clauses,
-            questions,
-        });
-    }
-    if c == b'n' {
-        let mode = Mode::Owed(22);
-        return Stepped::Next(State {
-            want,
-            mode,
-            clauses,
-            questions: questions + 1,
-        });
-    }
-    Stepped::Stuck
+    let asked = c == b'n';
+    let rest = match c {
+        b'a' => 5,
+        b'h' => 11,
+        b'n' => 22,
+        _ => return None,
+    };
+    Some(State {
+        want: Want::AfterRole,
+        mode: Mode::Owed(rest),
+        clauses: s.clauses + 1,
+        questions: s.questions + usize::from(asked),
+    })
 }
 
 // A lower-case letter between tokens.
-fn on_lower(s: State, c: u8) -> Stepped
+#[tactic(auto, unfolding(crate::specs::Judging::on_lower))]
+fn on_lower(s: State, c: u8) -> Option<State>
     requires { Room s }
     ensures { result ≡ on_lower s s.want c }
 {
-    let want = s.want;
-    match want {
-        Want::Clause => {
-            if c == b'c' {
-                return move_to(s, Want::Opening, Mode::Owed(1));
-            }
-            return Stepped::Stuck;
+    match s.want {
+        Want::Clause if c == b'c' => Some(move_to(s, Want::Opening, Mode::Owed(1))),
+        Want::Name => Some(move_to(s, Want::AfterName, Mode::Word)),
+        Want::Role => on_role(s, c),
+        Want::Formula => Some(move_to(s, Want::Symbol(0, false), Mode::Word)),
+        Want::Literal(bracketed) | Want::Atom(bracketed) => {
+            Some(move_to(s, Want::Symbol(0, bracketed), Mode::Word))
         }
-        Want::Opening => return Stepped::Stuck,
-        Want::Name => return move_to(s, Want::AfterName, Mode::Word),
-        Want::AfterName => return Stepped::Stuck,
-        Want::Role => return on_role(s, c),
-        Want::AfterRole => return Stepped::Stuck,
-        Want::Formula => return move_to(s, Want::Symbol(0, false), Mode::Word),
-        Want::Literal(bracketed) => return move_to(s, Want::Symbol(0, bracketed), Mode::Word),
-        Want::Atom(bracketed) => return move_to(s, Want::Symbol(0, bracketed), Mode::Word),
-        Want::Symbol(_, _) => return Stepped::Stuck,
-        Want::Term(depth, bracketed) => return move_to(
-            s,
-            Want::Symbol(depth + 1, bracketed),
-            Mode::Word,
-        ),
-        Want::Ended(_, _) => return Stepped::Stuck,
-        Want::Closing => return Stepped::Stuck,
-        Want::Stop => return Stepped::Stuck,
+        Want::Term(depth, bracketed) => {
+            Some(move_to(s, Want::Symbol(depth + 1, bracketed), Mode::Word))
+        }
+        _ => None,
     }
 }
 
 // An upper-case letter between tokens.
-fn on_upper(s: State) -> Stepped
+#[tactic(auto, unfolding(crate::specs::Judging::on_upper))]
+fn on_upper(s: State) -> Option<State>
     requires { Room s }
     ensures { result ≡ on_upper s s.want }
 {
-    let want = s.want;
-    if let Want::Term(depth, bracketed) = want {
-        return move_to(s, Want::Ended(depth + 1, bracketed), Mode::Word);
-    }
-    Stepped::Stuck
+    let Want::Term(depth, bracketed) = s.want else {
+        return None;
+    };
+    Some(move_to(s, Want::Ended(depth + 1, bracketed), Mode::Word))
 }
 
-fn follow(s: State, went: Went) -> Stepped
-    ensures { result ≡ signed s went }
+// A sign between tokens.
+#[tactic(auto, unfolding(crate::specs::Judging::signed))]
+fn follow(s: State, mark: Mark) -> Option<State>
+    ensures { result ≡ signed s (on_sign s.want mark) }
 {
-    match went {
-        Went::To(want) => return move_to(s, want, Mode::Between),
-        Went::Nowhere => return Stepped::Stuck,
-    }
+    let want = on_sign(s.want, mark)?;
+    Some(move_to(s, want, Mode::Between))
 }
 
 // A byte between tokens.
-fn on_kind(s: State, c: u8, kind: Kind) -> Stepped
+#[tactic(auto, unfolding(crate::specs::Judging::on_kind))]
+fn on_kind(s: State, c: u8, kind: Kind) -> Option<State>
     requires { Room s }
     ensures { result ≡ on_kind s c kind }
 {
-    let want = s.want;
     match kind {
-        Kind::Blank => return move_to(s, want, Mode::Between),
-        Kind::Percent => return move_to(s, want, Mode::Comment),
-        Kind::Lower => return on_lower(s, c),
-        Kind::Upper => return on_upper(s),
-        Kind::Further => return Stepped::Stuck,
-        Kind::Sign(mark) => return follow(s, on_sign(want, mark)),
-        Kind::Other => return Stepped::Stuck,
+        Kind::Blank => Some(move_to(s, s.want, Mode::Between)),
+        Kind::Percent => Some(move_to(s, s.want, Mode::Comment)),
+        Kind::Lower => on_lower(s, c),
+        Kind::Upper => on_upper(s),
+        Kind::Sign(mark) => follow(s, mark),
+        Kind::Further | Kind::Other => None,
     }
 }
 
 // A byte in a name that may go on.
-fn in_word(s: State, c: u8) -> Stepped
+#[tactic(auto, unfolding(crate::specs::Judging::on_byte))]
+fn in_word(s: State, c: u8) -> Option<State>
     requires { Room s }
     ensures { result ≡ on_byte s c Mode.Word }
 {
     let kind = kind::kind_of(c);
     if kind::goes_on(kind) {
-        let want = s.want;
-        return move_to(s, want, Mode::Word);
+        Some(move_to(s, s.want, Mode::Word))
+    } else {
+        on_kind(s, c, kind)
     }
-    on_kind(s, c, kind)
 }
 
 // A byte in a word of which the bytes from a place on are owed.
-fn in_owed(s: State, c: u8, place: usize) -> Stepped
+#[tactic(auto, using(crate::proofs::JudgeLaws::owed_fits), unfolding(crate::specs::Judging::on_byte))]
+fn in_owed(s: State, c: u8, place: usize) -> Option<State>
     requires { Room s }
     ensures { result ≡ on_byte s c (Mode.Owed place) }
 {
@@ -313,78 +219,79 @@ fn in_owed(s: State, c: u8, place: usize) -> Stepped
     let byte = owed(place);
     if kind::goes_on(kind) {
         if c == byte {
-            let want = s.want;
-            return move_to(s, want, Mode::Owed(place + 1));
+            return Some(move_to(s, s.want, Mode::Owed(place + 1)));
         }
-        return Stepped::Stuck;
+        return None;
     }
     if byte == b'.' {
         return on_kind(s, c, kind);
     }
-    Stepped::Stuck
+    None
 }
 
-fn in_comment(s: State, c: u8) -> Stepped
-    ensures { result ≡ on_byte s c Mode.Comment }
+#[tactic(auto, unfolding(crate::specs::Judging::on_byte))]
+fn in_comment(s: State, c: u8) -> State
+    ensures { Some result ≡ on_byte s c Mode.Comment }
 {
-    let want = s.want;
-    if c == b'\n' {
-        return move_to(s, want, Mode::Between);
-    }
-    move_to(s, want, Mode::Comment)
+    let mode = if c == b'\n' {
+        Mode::Between
+    } else {
+        Mode::Comment
+    };
+    move_to(s, s.want, mode)
 }
 
-pub(crate) fn advance(s: State, c: u8) -> Stepped
+#[tactic(auto, unfolding(crate::specs::Judging::step_of, crate::specs::Judging::on_byte))]
+pub(crate) fn advance(s: State, c: u8) -> Option<State>
     requires { Room s }
     ensures { result ≡ step_of s c }
 {
-    let mode = s.mode;
-    match mode {
-        Mode::Between => return on_kind(s, c, kind::kind_of(c)),
-        Mode::Comment => return in_comment(s, c),
-        Mode::Word => return in_word(s, c),
-        Mode::Owed(place) => return in_owed(s, c, place),
+    match s.mode {
+        Mode::Between => on_kind(s, c, kind::kind_of(c)),
+        Mode::Comment => Some(in_comment(s, c)),
+        Mode::Word => in_word(s, c),
+        Mode::Owed(place) => in_owed(s, c, place),
     }
 }
 
+#[tactic(auto, unfolding(crate::specs::Judging::settled))]
 fn whole(mode: Mode) -> bool
     ensures { result ≡ settled mode }
 {
     match mode {
-        Mode::Between => return true,
-        Mode::Comment => return true,
-        Mode::Word => return true,
-        Mode::Owed(place) => return owed(place) == b'.',
+        Mode::Owed(place) => owed(place) == b'.',
+        Mode::Between | Mode::Comment | Mode::Word => true,
     }
 }
 
 // The text may end.
-fn may_end(want: Want, mode: Mode) -> bool
-    ensures { result ≡ may_end want mode }
+#[tactic(auto, unfolding(crate::specs::Judging::may_end))]
+fn may_end(s: State) -> bool
+    ensures { result ≡ may_end s.want s.mode }
 {
-    if let Want::Clause = want {
-        return whole(mode);
-    }
-    false
+    matches!(s.want, Want::Clause) && whole(s.mode)
 }
 
-fn finish(s: State, at: usize) -> Verdict
+#[tactic(auto, unfolding(crate::specs::Judging::finished))]
+fn finish(s: State, at: usize) -> Result<Counts, usize>
     ensures { result ≡ finished s at }
 {
-    let want = s.want;
-    let mode = s.mode;
-    if may_end(want, mode) {
-        return Verdict::Fine(s.clauses, s.questions);
+    if may_end(s) {
+        return Ok(Counts {
+            clauses: s.clauses,
+            questions: s.questions,
+        });
     }
-    Verdict::Wrong(at)
+    Err(at)
 }
 
-// The verdict on a text.
-pub fn judge_text(text: &[u8]) -> Verdict
+#[tactic(auto, using(crate::proofs::JudgeLoop::judge_laws))]
+// The numbers of clauses and of questions in a permitted text, or the place where another is wrong.
+pub fn judge_text(text: &[u8]) -> Result<Counts, usize>
     ensures { result ≡ judged text.now }
 {
     if text.len() > 65536 {
-        return Verdict::Wrong(65536);
+        return Err(65536);
     }
     let mut s = State {
         want: Want::Clause,
@@ -392,14 +299,8 @@ pub fn judge_text(text: &[u8]) -> Verdict
         clauses: 0,
         questions: 0,
     };
-    let mut at = 0;
-    while at < text.len() {
-        let stepped = advance(s, text[at]);
-        let Stepped::Next(next) = stepped else {
-            return Verdict::Wrong(at);
-        };
-        s = next;
-        at += 1;
+    for (at, c) in text.iter().enumerate() {
+        s = advance(s, *c).ok_or(at)?;
     }
-    finish(s, at)
+    finish(s, text.len())
 }

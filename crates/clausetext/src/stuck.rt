@@ -3,7 +3,7 @@ ghost use Rattle.std.specs.Prelude.{◌≡◌};
 ghost use Rattle.clausetext.specs.Judging.{start};
 ghost use Rattle.clausetext.specs.Stuck.{stuck_in, name_begun, question_from};
 
-use crate::judge::{Mode, State, Stepped, Want, advance};
+use crate::judge::{Mode, State, Want, advance};
 
 fn beginning() -> State
     ensures { result ≡ start }
@@ -16,19 +16,17 @@ fn beginning() -> State
     }
 }
 
+#[tactic(auto, using(crate::proofs::StuckLoop::follow_laws))]
 // The state in which a text cannot go on, or in which it ends.
 pub fn stuck_in(text: &[u8]) -> State
     ensures { result ≡ stuck_in start text.now }
 {
     let mut s = beginning();
-    let mut at = 0;
-    while at < text.len() {
-        let stepped = advance(s, text[at]);
-        let Stepped::Next(next) = stepped else {
+    for c in text {
+        let Some(next) = advance(s, *c) else {
             return s;
         };
         s = next;
-        at += 1;
     }
     s
 }
@@ -37,43 +35,25 @@ pub fn stuck_in(text: &[u8]) -> State
 fn name_begun(want: Want, at: usize, name: usize) -> usize
     ensures { result ≡ name_begun want at name }
 {
-    match want {
-        Want::Clause => name,
-        Want::Opening => name,
-        Want::Name => at,
-        Want::AfterName => name,
-        Want::Role => name,
-        Want::AfterRole => name,
-        Want::Formula => name,
-        Want::Literal(_) => name,
-        Want::Atom(_) => name,
-        Want::Symbol(_, _) => name,
-        Want::Term(_, _) => name,
-        Want::Ended(_, _) => name,
-        Want::Closing => name,
-        Want::Stop => name,
-    }
+    if matches!(want, Want::Name) { at } else { name }
 }
 
+#[tactic(auto, using(crate::proofs::StuckLoop::seek_laws))]
 // Where the name of the clause begins that is the so-many-th question, counted from 1; where the text ends or goes wrong if there is none.
 pub fn question_name(text: &[u8], many: usize) -> usize
     ensures { result ≡ question_from many start 0 0 text.now }
 {
     let mut s = beginning();
     let mut name = 0;
-    let mut at = 0;
-    while at < text.len() {
-        let want = s.want;
-        let stepped = advance(s, text[at]);
-        let Stepped::Next(next) = stepped else {
+    for (at, c) in text.iter().enumerate() {
+        let Some(next) = advance(s, *c) else {
             return at;
         };
-        name = name_begun(want, at, name);
+        name = name_begun(s.want, at, name);
         if next.questions == many {
             return name;
         }
         s = next;
-        at += 1;
     }
-    at
+    text.len()
 }

@@ -11,7 +11,8 @@ use Rattle.table.specs.File.{judge, table_in}
 use Rattle.table.specs.declared.Judgement.{Judgement}
 use Rattle.table.specs.Syntax.{Table}
 use Rattle.table.proofs.Building.{SaysTable, says_table, front_long}
-use Rattle.desk.specs.Records.{slot_of, records_of}
+use Rattle.desk.specs.Records.{records_of}
+use Rattle.desk.specs.declared.Slot.{Slot}
 use Rattle.desk.specs.Desk.{tries_for}
 use Rattle.desk.specs.Clauses.{desk_table}
 use Rattle.desk.specs.Asking.{Intake, Asked, Fronts, settled_by, status_for, heard}
@@ -20,19 +21,19 @@ use Rattle.desk.specs.declared.ask.Answer.TheVariants.{BudgetEnded, Found, NoneF
 use Rattle.desk.proofs.Words.{records_short, body_length, file_within}
 use Rattle.desk.proofs.Heard.{hears_ended, hears_none, hears_found}
 
-module _ {words : List ℕ} {day house slot : ℕ} (intake : Intake words) (asked : Asked day house slot) where
+module _ {words : List ℕ} {day house : ℕ} (slot : Slot) (intake : Intake words) (asked : Asked day house) where
   abbrev table : Table
-  table = desk_table (records_of words) day house (slot_of slot)
+  table = desk_table (records_of words) day house slot
 
   says : (buffer : List ℕ) → SaysTable table (at_front (file_words table) buffer)
-  says buffer = says_table table (file_within words day house (slot_of slot) intake asked.day_few asked.house_few) buffer
+  says buffer = says_table table (file_within words day house slot intake asked.day_few asked.house_few) buffer
 
-  module _ {buffer file : List ℕ} {n : ℕ} (f : Fronts buffer (file_words (desk_table (records_of words) day house (slot_of slot))) n file) where
+  module _ {buffer file : List ℕ} {n : ℕ} (f : Fronts buffer (file_words (desk_table (records_of words) day house slot)) n file) where
     front-is : take n file ≡ file_words table
     front-is = rw (f.counted, f.stands) (says buffer).front
 
     file_short : n ≤ 4509
-    file_short = omega (arith, f.counted, (says buffer).long, body_length words day house (slot_of slot), records_short words, intake.few)
+    file_short = omega (arith, f.counted, (says buffer).long, body_length words day house slot, records_short words, intake.few)
 
     pub file_room : length buffer ≡ 4509 → n ≤ length file
     file_room l =
@@ -50,14 +51,14 @@ module _ {words : List ℕ} {day house slot : ℕ} (intake : Intake words) (aske
 
     module _ (budget : ℕ) {said : ℕ} (s : said ≡ status_for (take n file) budget) where
       abbrev hears : Answer → Type 0
-      hears a = a ≡ heard budget (tries_for day house (slot_of slot) (records_of words)) (settled_by day house (slot_of slot) (records_of words))
+      hears a = a ≡ heard budget (tries_for day house slot (records_of words)) (settled_by day house slot (records_of words))
 
       pub answer_ended : said ≡ 11 → hears BudgetEnded
-      answer_ended e = hears_ended (records_of words) day house (slot_of slot) (take n file) budget accepted says-that (sym s ∙ e)
+      answer_ended e = hears_ended (records_of words) day house slot (take n file) budget accepted says-that (sym s ∙ e)
 
       module _ (m : said ≡ 11 → ⊥) where
         pub answer_none : said ≡ 10 → hears NoneFound
-        answer_none e = hears_none (records_of words) day house (slot_of slot) (take n file) budget accepted says-that (λ h. m (s ∙ h)) (sym s ∙ e)
+        answer_none e = hears_none (records_of words) day house slot (take n file) budget accepted says-that (λ h. m (s ∙ h)) (sym s ∙ e)
 
         pub answer_found : (said ≡ 10 → ⊥) → hears Found
-        answer_found k = hears_found (records_of words) day house (slot_of slot) (take n file) budget accepted says-that (λ h. m (s ∙ h)) (λ h. k (s ∙ h))
+        answer_found k = hears_found (records_of words) day house slot (take n file) budget accepted says-that (λ h. m (s ∙ h)) (λ h. k (s ∙ h))

@@ -27,7 +27,9 @@ use Rattle.hukolearu.specs.Says.{SearchAccepted, SearchSays, ran_out, none_found
 use Rattle.hukolearu.proofs.CallDemands.{search_says, found_answers_hold}
 use Rattle.desk.proofs.Words.{file_within}
 use Rattle.desk.proofs.Bools.{clash, never, and_left, and_right, or_right}
-use Rattle.desk.specs.Records.{Slot, matinee, evening, either, Record, slot_of, records_of}
+use Rattle.desk.specs.Records.{Record, slot_of, records_of}
+use Rattle.desk.specs.declared.Slot.{Slot}
+use Rattle.desk.specs.declared.Slot.TheVariants.{Matinee as matinee, Evening as evening, Either as either}
 use Rattle.desk.specs.Desk.{same_slot, is_of, recorded}
 use Rattle.desk.specs.Asking.{Intake, Asked, asks, status_for}
 use Rattle.desk.specs.Clauses.{alternatives, clause_for, asked_slot, question, desk_table}
@@ -228,13 +230,6 @@ asked_recorded rs day house asked d h n e =
     rw (ne_eqb (slot_number asked) day (λ z. omega arith), ne_eqb (slot_number asked) (1000 + house) (λ z. omega arith), eq-eqb (slot_number asked) (slot_number asked) refl) in
     rw (one, two, three) at e
 
-one_slot_asked : (slot : ℕ) → 1 ≤ slot → slot ≤ 2 → slot_of slot ≡ either → ⊥
-unfolding slot_of
-one_slot_asked zero l m e = omega arith
-one_slot_asked (suc zero) l m e = clash (cc)
-one_slot_asked (suc (suc zero)) l m e = clash (cc)
-one_slot_asked (suc (suc (suc n))) l m e = omega arith
-
 -- what the search says with status 0, and that its answer is true
 module _ (rs : List Record) (day house : ℕ) (asked : Slot) (d : day ≤ 366) (h : house ≤ 999) (one-slot : asked ≡ either → ⊥)
     (limits : Within (desk_table rs day house asked)) where
@@ -256,21 +251,21 @@ module _ (rs : List Record) (day house : ℕ) (asked : Slot) (d : day ≤ 366) (
       asked_recorded rs day house asked d h one-slot (one_asked I (λ x. 0) c.unifiable.by day house _ said some-true)
 
 -- A matinee or an evening that the search finds is stated by a record: from the truth of answers alone.
-pub found_is_stated : (words : List ℕ) (day house slot : ℕ) → Intake words → Asked day house slot → slot ≤ 2 → (budget : ℕ)
-    → status_for (file_words (desk_table (records_of words) day house (slot_of slot))) budget ≡ 0 → recorded day house (slot_of slot) (records_of words) ≡ true
+pub found_is_stated : (words : List ℕ) (day house : ℕ) (slot : Slot) → Intake words → Asked day house → (slot ≡ either → ⊥) → (budget : ℕ)
+    → status_for (file_words (desk_table (records_of words) day house slot)) budget ≡ 0 → recorded day house slot (records_of words) ≡ true
 unfolding desk_table
-found_is_stated words day house slot intake asked low budget z =
+found_is_stated words day house slot intake asked one budget z =
     let rs = records_of words in
-    let t = desk_table (records_of words) day house (slot_of slot) in
-    let within = file_within words day house (slot_of slot) intake asked.day_few asked.house_few in
-    let file = file_words (desk_table (records_of words) day house (slot_of slot)) in
+    let t = desk_table (records_of words) day house slot in
+    let within = file_within words day house slot intake asked.day_few asked.house_few in
+    let file = file_words (desk_table (records_of words) day house slot) in
     let says = says_table t within [] in
     let ok : SearchAccepted (asks file budget) =
     record { enough_work = omega arith; enough_proof = omega arith; low_bound = omega arith; good_file = ap (λ (j : Judgement). j.status) says.judged } in
-    let hold : AllHold (by_records rs day house (slot_of slot)) (table_in file).clauses =
-    rw says.table (all_hold rs day house (slot_of slot) (one_slot_asked slot asked.slot_some low) rs (λ e. e)) in
-    let true_answer = found_answers_hold (by_records rs day house (slot_of slot)) (asks file budget) ok hold z in
-    said-stated rs day house (slot_of slot) asked.day_few asked.house_few (one_slot_asked slot asked.slot_some low) within.table
+    let hold : AllHold (by_records rs day house slot) (table_in file).clauses =
+    rw says.table (all_hold rs day house slot one rs (λ e. e)) in
+    let true_answer = found_answers_hold (by_records rs day house slot) (asks file budget) ok hold z in
+    said-stated rs day house slot asked.day_few asked.house_few one within.table
     (subst (λ (u : Table). SearchSays (base u 2) budget 8 (search_call (asks file budget))) says.table (search_says (asks file budget) ok))
     z
-    (subst (λ (u : Table). TrueAnswer (by_records rs day house (slot_of slot)) u.question (search_call (asks file budget)).outcome.disjuncts (search_call (asks file budget)).answer) says.table true_answer)
+    (subst (λ (u : Table). TrueAnswer (by_records rs day house slot) u.question (search_call (asks file budget)).outcome.disjuncts (search_call (asks file budget)).answer) says.table true_answer)

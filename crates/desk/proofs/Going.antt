@@ -16,7 +16,9 @@ use Rattle.rules.specs.Tableau
 use Rattle.rules.specs.Setting.{base}
 use Rattle.rules.specs.Order.{reductions, entries, extensions, candidates_at, candidates, all_closed, stated, Ending, found, nothing, Searched}
 use Rattle.rules.specs.System.{Tried, arrived, looked, none_left, failed, finds, in_vain_is}
-use Rattle.desk.specs.Records.{Slot, matinee, evening, either, Record}
+use Rattle.desk.specs.Records.{Record}
+use Rattle.desk.specs.declared.Slot.{Slot}
+use Rattle.desk.specs.declared.Slot.TheVariants.{Matinee as matinee, Evening as evening, Either as either}
 use Rattle.desk.specs.Desk.{same_slot, is_of, named, settles, taken, spent, tries_for}
 use Rattle.desk.specs.Clauses.{constant, at_literal, the_matinee, the_evening, alternatives, clause_for, asked_slot, question, desk_table}
 use Rattle.desk.specs.Asking.{settled_by}

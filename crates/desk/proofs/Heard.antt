@@ -16,7 +16,8 @@ use Rattle.hukolearu.specs.Calls.{Given, search_with, search_call}
 use Rattle.hukolearu.specs.declared.Outcome.{Outcome}
 use Rattle.hukolearu.specs.Says.{SearchAccepted, SearchSays, ran_out, none_found, found_fitting, found_too_long}
 use Rattle.hukolearu.proofs.CallDemands.{search_says}
-use Rattle.desk.specs.Records.{Slot, Record}
+use Rattle.desk.specs.Records.{Record}
+use Rattle.desk.specs.declared.Slot.{Slot}
 use Rattle.desk.specs.Desk.{tries_for}
 use Rattle.desk.specs.Clauses.{desk_table}
 use Rattle.desk.specs.Asking.{settled_by, asks, status_for, heard}

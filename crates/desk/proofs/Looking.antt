@@ -8,7 +8,7 @@ use mathlib.Core.List.{List, [], ◌∷◌}
 use mathlib.Core.Path.{◌≡◌, refl, sym, ◌∙◌, ap}
 use native.Mathlib.Omega.{arith}
 use Prim.Native.Nat.{ℕ, zero, suc, ◌+◌, ◌-◌, ◌≤◌, ◌<◌}
-use Rattle.desk.specs.Records.{Record, records_of, between, day_in_range, house_in_range, record_in_range, words_in_range, acceptable}
+use Rattle.desk.specs.Records.{Record, slot_of, records_of, between, day_in_range, house_in_range, record_in_range, words_in_range, acceptable}
 use Rattle.desk.specs.Desk.{is_of}
 use Rattle.desk.specs.Asking.{Intake, Asked, record_of}
 use Rattle.desk.proofs.Bools.{never, and_left, and_right}
@@ -59,18 +59,15 @@ module _ (day house slot : ℕ) where
 pub ruleset record_laws = (wrong_day, wrong_house, by_slot)
 
 -- a record in range
-pub in_range_asked : (day house slot : ℕ) → record_in_range day house slot ≡ true → Asked day house slot
+pub in_range_asked : (day house slot : ℕ) → record_in_range day house slot ≡ true → Asked day house
 unfolding record_in_range
 in_range_asked day house slot e =
     let both = and_left (between 1 366 day && between 1 999 house) (between 1 3 slot) e in
     let first = and_left (between 1 366 day) (between 1 999 house) both in
     let second = and_right (between 1 366 day) (between 1 999 house) both in
-    let third = and_right (between 1 366 day && between 1 999 house) (between 1 3 slot) e in
     record {
       day_few = leb-true day 366 (and_right (leb 1 day) (leb day 366) first);
       house_few = leb-true house 999 (and_right (leb 1 house) (leb house 999) second);
-      slot_some = leb-true 1 slot (and_left (leb 1 slot) (leb slot 3) third);
-      slot_few = leb-true slot 3 (and_right (leb 1 slot) (leb slot 3) third);
     }
 
 -- the next three words
@@ -143,10 +140,10 @@ module _ (ws : List ℕ) (i : ℕ) (passed : words_in_range (drop i ws) ≡ true
   pub passed_on : words_in_range (drop (i + 3) ws) ≡ true
   passed_on = and_right (right_at ws i) (words_in_range (drop (i + 3) ws)) both
 
-  pub passed_record : Asked (get_or ws i 0) (get_or ws (i + 1) 0) (get_or ws (i + 2) 0)
-  passed_record = in_range_asked _ _ _ (and_left (right_at ws i) (words_in_range (drop (i + 3) ws)) both)
+  pub passed_record : Asked (get_or ws i 0) (get_or ws (i + 1) 0)
+  passed_record = in_range_asked _ _ (get_or ws (i + 2) 0) (and_left (right_at ws i) (words_in_range (drop (i + 3) ws)) both)
 
-  pub record_next : records_of (drop i ws) ≡ record_of (get_or ws i 0) (get_or ws (i + 1) 0) (get_or ws (i + 2) 0) ∷ records_of (drop (i + 3) ws)
+  pub record_next : records_of (drop i ws) ≡ record_of (get_or ws i 0) (get_or ws (i + 1) 0) (slot_of (get_or ws (i + 2) 0)) ∷ records_of (drop (i + 3) ws)
   unfolding records_of
   record_next = rw (next_three ws i three_left)
 
@@ -167,17 +164,15 @@ module _ (ws : List ℕ) (day house : ℕ) (a : acceptable ws day house ≡ true
         in_range = and_right (day_in_range day && house_in_range house && leb (length ws) 1500) (words_in_range ws) a;
       }
 
-  pub accepted_question : (slot : ℕ) → 1 ≤ slot → slot ≤ 3 → Asked day house slot
-  accepted_question slot low high =
+  pub accepted_question : Asked day house
+  accepted_question =
       record {
         day_few = leb-true day 366 (and_right (leb 1 day) (leb day 366) (and_left (day_in_range day) (house_in_range house) ranges));
         house_few = leb-true house 999 (and_right (leb 1 house) (leb house 999) (and_right (day_in_range day) (house_in_range house) ranges));
-        slot_some = low;
-        slot_few = high;
       }
 
-pub may_ask : (ws : List ℕ) (day house slot : ℕ) → acceptable ws day house ≡ true → 1 ≤ slot → slot ≤ 3 → Intake ws × Asked day house slot
-may_ask ws day house slot a low high = (accepted_words ws day house a, accepted_question ws day house a slot low high)
+pub may_ask : (ws : List ℕ) (day house : ℕ) → acceptable ws day house ≡ true → Intake ws × Asked day house
+may_ask ws day house a = (accepted_words ws day house a, accepted_question ws day house a)
 
 -- the first look, one thing after another
 module _ (ws : List ℕ) (day house : ℕ) where

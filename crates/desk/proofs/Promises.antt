@@ -9,7 +9,9 @@ use mathlib.Core.Logic.{◌↔◌, ◌⊎◌, inl, inr, ◌≢◌}
 use mathlib.Core.Path.{◌≡◌, refl, sym, ◌∙◌, ap}
 use native.Mathlib.Omega.{arith}
 use Prim.Native.Nat.{ℕ, ◌+◌, ◌*◌, ◌≤◌, ◌<◌}
-use Rattle.desk.specs.Records.{Slot, matinee, evening, either, Record, records_of, acceptable}
+use Rattle.desk.specs.Records.{Record, records_of, acceptable}
+use Rattle.desk.specs.declared.Slot.{Slot}
+use Rattle.desk.specs.declared.Slot.TheVariants.{Matinee as matinee, Evening as evening, Either as either}
 use Rattle.desk.specs.Desk.{same_slot, is_of, recorded, named, settles, taken, spent, tries_for, slots_reported, reported, desk_says, values_of}
 use Rattle.desk.specs.Promises
 use Rattle.desk.specs.Promises.{Recorded, NeitherStated}

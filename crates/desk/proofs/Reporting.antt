@@ -5,7 +5,9 @@ use mathlib.Core.Bool.{Bool, true, false, not, cond, ◌&&◌, ◌||◌}
 use mathlib.Core.List.{List, [], ◌∷◌}
 use mathlib.Core.Path.{◌≡◌, refl, sym, ◌∙◌}
 use Prim.Native.Nat.{ℕ}
-use Rattle.desk.specs.Records.{Slot, matinee, evening, either, Record, slot_of, records_of, acceptable}
+use Rattle.desk.specs.Records.{Record, records_of, acceptable}
+use Rattle.desk.specs.declared.Slot.{Slot}
+use Rattle.desk.specs.declared.Slot.TheVariants.{Matinee as matinee, Evening as evening, Either as either}
 use Rattle.desk.specs.Desk.{same_slot, is_of, recorded, settles, tries_for, slots_reported, reported, desk_says}
 use Rattle.desk.specs.Asking.{settled_by, heard, any_reported, evening_reported, NeitherRecorded}
 use Rattle.desk.specs.declared.Report.{Report}
@@ -75,9 +77,9 @@ module _ (yes' no' : Report) (o s : Bool) {a : Answer} (e : a ≡ of_tests o s) 
 
 -- the question for any slot, where neither is recorded
 module _ (rs : List Record) (day house third : ℕ) (n : NeitherRecorded rs day house) {a : Answer}
-    (e : a ≡ heard third (tries_for day house (slot_of 3) rs) (settled_by day house (slot_of 3) rs)) where
+    (e : a ≡ heard third (tries_for day house either rs) (settled_by day house either rs)) where
   asked-any : a ≡ of_tests (ltb third (tries_for day house either rs)) (recorded day house either rs)
-  unfolding heard slot_of
+  unfolding heard
   asked-any = e ∙ rw (any_settled day house rs n.no_matinee n.no_evening)
 
   pub any_out : a ≡ BudgetEnded → RanOut ≡ any_reported rs day house third
@@ -93,9 +95,9 @@ pub ruleset any_laws = (any_out, any_found, any_none)
 
 -- the question for evening, beside a matinee and without
 module _ (rs : List Record) (day house second third : ℕ) {a : Answer}
-    (e : a ≡ heard second (tries_for day house (slot_of 2) rs) (settled_by day house (slot_of 2) rs)) where
+    (e : a ≡ heard second (tries_for day house evening rs) (settled_by day house evening rs)) where
   asked-evening : a ≡ of_tests (ltb second (tries_for day house evening rs)) (recorded day house evening rs)
-  unfolding heard slot_of
+  unfolding heard
   asked-evening = e ∙ rw (evening-settled day house rs)
 
   pub evening_out : (stated : Bool) → a ≡ BudgetEnded → RanOut ≡ evening_reported stated rs day house second third
@@ -132,9 +134,9 @@ module _ (words : List ℕ) (day house first second third : ℕ) where
     pub taken_in : acceptable words day house ≡ true
     taken_in = sym acc ∙ not-false q n
 
-    module _ {a : Answer} (e : a ≡ heard first (tries_for day house (slot_of 1) (records_of words)) (settled_by day house (slot_of 1) (records_of words))) where
+    module _ {a : Answer} (e : a ≡ heard first (tries_for day house matinee (records_of words)) (settled_by day house matinee (records_of words))) where
       asked-matinee : a ≡ of_tests (ltb first (tries_for day house matinee (records_of words))) (recorded day house matinee (records_of words))
-      unfolding heard slot_of
+      unfolding heard
       asked-matinee = e ∙ rw (matinee-settled day house (records_of words))
 
       pub desk_out : a ≡ BudgetEnded → RanOut ≡ desk_says words day house first second third

@@ -10,7 +10,9 @@ use Rattle.table.specs.Encode.{term_words, literal_words, literals_words, clause
 use Rattle.table.specs.Limits.{TermWithin, LiteralWithin, Each, ClauseWithin, FileWithin}
 use Rattle.table.specs.Syntax.{arity, Literal, Clause, all_clauses}
 use Rattle.table.proofs.Building.{clauses_snoc}
-use Rattle.desk.specs.Records.{Slot, matinee, evening, either, slot_of, records_of, record_in_range, words_in_range}
+use Rattle.desk.specs.Records.{slot_of, records_of, record_in_range, words_in_range}
+use Rattle.desk.specs.declared.Slot.{Slot}
+use Rattle.desk.specs.declared.Slot.TheVariants.{Matinee as matinee, Evening as evening, Either as either}
 use Rattle.desk.specs.Clauses.{at_literal, constant, alternatives, clause_for, asked_slot, asked_variables, question, desk_table}
 use Rattle.desk.specs.Asking.{Intake, record_of, records_words, single_words}
 use Rattle.desk.proofs.Looking.{in_range_asked}
@@ -21,29 +23,29 @@ unfolding term_words literal_words literals_words clause_words arity clause_for 
 opened = tt
 
 -- a fact, the two alternatives, and the three questions
-pub fact_words : (day house slot : ℕ) → 1 ≤ slot → slot ≤ 2
-    → single_words false 0 day house (function_word (2000 + slot) 0) ≡ clause_words (clause_for (record_of day house slot))
+pub matinee_words : (day house : ℕ) → single_words false 0 day house (function_word 2001 0) ≡ clause_words (clause_for (record_of day house matinee))
 unfolding opened
-fact_words day house zero l m = absurd (omega arith)
-fact_words day house (suc zero) l m = refl
-fact_words day house (suc (suc zero)) l m = refl
-fact_words day house (suc (suc (suc n))) l m = absurd (omega arith)
+matinee_words day house = refl
+
+pub evening_words : (day house : ℕ) → single_words false 0 day house (function_word 2002 0) ≡ clause_words (clause_for (record_of day house evening))
+unfolding opened
+evening_words day house = refl
 
 pub either_words : (day house : ℕ)
     → clause_word false 2 0 8 ∷ literal_word false 1 3 ∷ function_word day 0 ∷ function_word (1000 + house) 0 ∷ function_word 2001 0
-    ∷ literal_word false 1 3 ∷ function_word day 0 ∷ function_word (1000 + house) 0 ∷ function_word 2002 0 ∷ [] ≡ clause_words (clause_for (record_of day house 3))
+    ∷ literal_word false 1 3 ∷ function_word day 0 ∷ function_word (1000 + house) 0 ∷ function_word 2002 0 ∷ [] ≡ clause_words (clause_for (record_of day house either))
 unfolding opened
 either_words day house = refl
 
-pub question_words_lem : (day house slot : ℕ) → 1 ≤ slot → slot ≤ 2
-    → single_words true 0 day house (function_word (2000 + slot) 0) ≡ clause_words (question day house (slot_of slot))
+pub matinee_question_words : (day house : ℕ) → single_words true 0 day house (function_word 2001 0) ≡ clause_words (question day house matinee)
 unfolding opened
-question_words_lem day house zero l m = absurd (omega arith)
-question_words_lem day house (suc zero) l m = refl
-question_words_lem day house (suc (suc zero)) l m = refl
-question_words_lem day house (suc (suc (suc n))) l m = absurd (omega arith)
+matinee_question_words day house = refl
 
-pub any_words : (day house : ℕ) → single_words true 1 day house (variable_word 0) ≡ clause_words (question day house (slot_of 3))
+pub evening_question_words : (day house : ℕ) → single_words true 0 day house (function_word 2002 0) ≡ clause_words (question day house evening)
+unfolding opened
+evening_question_words day house = refl
+
+pub any_words : (day house : ℕ) → single_words true 1 day house (variable_word 0) ≡ clause_words (question day house either)
 unfolding opened
 any_words day house = refl
 
@@ -66,7 +68,7 @@ records_short [] = omega arith
 records_short (a ∷ []) = omega arith
 records_short (a ∷ b ∷ []) = omega arith
 records_short (a ∷ b ∷ c ∷ ws) =
-    omega (arith, length-append (clause_words (clause_for (record_of a b c))) (clauses_words (map clause_for (records_of ws))), clause_short a b (slot_of c), records_short ws)
+    omega (arith, length-append (clause_words (clause_for (record_of a b (slot_of c)))) (clauses_words (map clause_for (records_of ws))), clause_short a b (slot_of c), records_short ws)
 
 pub records_counted : (ws : List ℕ) → words_in_range ws ≡ true → 3 * length (records_of ws) ≡ length ws
 unfolding records_of words_in_range

@@ -4,7 +4,9 @@ use Rattle.words.specs.Fields.{function_word, literal_word, clause_word}
 use Rattle.table.specs.Build.{at_front, behind}
 use Rattle.table.specs.Encode.{clauses_words}
 use Rattle.hukolearu.specs.Calls.{SearchAsked, search_call}
-use Rattle.desk.specs.Records.{Slot, matinee, evening, either, Record, slot_of, records_of, words_in_range}
+use Rattle.desk.specs.Records.{Record, slot_of, records_of, words_in_range}
+use Rattle.desk.specs.declared.Slot.{Slot}
+use Rattle.desk.specs.declared.Slot.TheVariants.{Matinee as matinee, Evening as evening, Either as either}
 use Rattle.desk.specs.Desk.{is_of, recorded, settles, tries_for, slots_reported, unless_out}
 use Rattle.desk.specs.Clauses.{clause_for}
 use Rattle.desk.specs.declared.Report.{Report}
@@ -17,20 +19,18 @@ pub record Intake (words : List ℕ) : Type 0 where
   pub few : length words ≤ 1500
   pub in_range : words_in_range words ≡ true
 
-pub record Asked (day house slot : ℕ) : Type 0 where
+pub record Asked (day house : ℕ) : Type 0 where
   pub day_few : day ≤ 366
   pub house_few : house ≤ 999
-  pub slot_some : 1 ≤ slot
-  pub slot_few : slot ≤ 3
 
 -- there is room for the file of so many records, their question and the trailer
 pub record Recordable (words file : List ℕ) : Type 0 where
   pub intake : Intake words
   pub long : length file ≡ 4509
 
-pub record Writable (words : List ℕ) (day house slot : ℕ) (file : List ℕ) : Type 0 where
+pub record Writable (words : List ℕ) (day house : ℕ) (file : List ℕ) : Type 0 where
   pub records : Recordable words file
-  pub asked : Asked day house slot
+  pub asked : Asked day house
 
 -- words were put into a file from a place on, and the next place is behind them
 pub record Puts (file : List ℕ) (at : ℕ) (words : List ℕ) (next : ℕ) (after : List ℕ) : Type 0 where
@@ -47,8 +47,8 @@ abbrev pub single_words : Bool → ℕ → ℕ → ℕ → ℕ → List ℕ
 single_words negative variables day house slot =
     clause_word false 1 variables 4 ∷ literal_word negative 1 3 ∷ function_word day 0 ∷ function_word (1000 + house) 0 ∷ slot ∷ []
 
-abbrev pub record_of : ℕ → ℕ → ℕ → Record
-record_of day house slot = record { day = day; house = house; slot = slot_of slot }
+abbrev pub record_of : ℕ → ℕ → Slot → Record
+record_of day house slot = record { day = day; house = house; slot = slot }
 
 -- the words of the records' clauses
 unfoldable pub records_words : List ℕ → List ℕ

@@ -2,7 +2,9 @@
 -- alternatives, matinee first; the question is the last.
 use Rattle.std.specs.Prelude.{Bool, true, false, List, [], ◌∷◌, map, ℕ, ◌+◌}
 use Rattle.table.specs.Syntax.{Term, var, app, nil, ◌then◌, Literal, Clause, Table}
-use Rattle.desk.specs.Records.{Slot, matinee, evening, either, Record}
+use Rattle.desk.specs.Records.{Record}
+use Rattle.desk.specs.declared.Slot.{Slot}
+use Rattle.desk.specs.declared.Slot.TheVariants.{Matinee as matinee, Evening as evening, Either as either}
 
 -- constants: a day's number is its own, a house's follows 1,000, the slots follow 2,000
 abbrev pub constant : {X : Type 0} → ℕ → Term X

@@ -1,6 +1,8 @@
 -- What the matinee desk says (document 02, order 14), of records alone.
 use Rattle.std.specs.Prelude.{Bool, true, false, cond, ◌&&◌, ◌||◌, List, [], ◌∷◌, ℕ, ◌+◌, eqb, ltb}
-use Rattle.desk.specs.Records.{Slot, matinee, evening, either, Record, records_of, acceptable}
+use Rattle.desk.specs.Records.{Record, records_of, acceptable}
+use Rattle.desk.specs.declared.Slot.{Slot}
+use Rattle.desk.specs.declared.Slot.TheVariants.{Matinee as matinee, Evening as evening, Either as either}
 use Rattle.desk.specs.declared.DeskValues.{DeskValues}
 use Rattle.desk.specs.declared.Report.{Report}
 use Rattle.desk.specs.declared.Report.TheVariants.{Refused, RanOut, Matinee, Evening, MatineeAndEvening, Either, NotRecorded}

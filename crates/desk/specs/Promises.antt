@@ -1,7 +1,9 @@
 -- What the desk promises (document 02, order 14), as statements about records. Nothing is proved here; proofs/Promises.antt proves each of them.
 use Rattle.std.specs.Prelude.{true, false, ◌↔◌, ◌⊎◌, ◌≢◌, ◌≡◌, ℕ, ◌≤◌, ◌<◌}
 use mathlib.Core.List.{List, Memᴰ}
-use Rattle.desk.specs.Records.{Slot, matinee, evening, either, Record, records_of, acceptable}
+use Rattle.desk.specs.Records.{Record, records_of, acceptable}
+use Rattle.desk.specs.declared.Slot.{Slot}
+use Rattle.desk.specs.declared.Slot.TheVariants.{Matinee as matinee, Evening as evening, Either as either}
 use Rattle.desk.specs.Desk.{tries_for, desk_says, values_of}
 use Rattle.desk.specs.declared.Report.TheVariants.{Refused, RanOut, NotRecorded}
 

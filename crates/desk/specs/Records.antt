@@ -1,10 +1,7 @@
 -- The records of the matinee desk (document 02, order 14): three words each, a day 1–366, a house 1–999 and a slot: 1 matinee, 2 evening, 3 either.
 use Rattle.std.specs.Prelude.{Bool, true, false, cond, ◌&&◌, List, [], ◌∷◌, ℕ, eqb, leb, length}
-
-pub data Slot : Type 0 where
-  matinee : Slot
-  evening : Slot
-  either : Slot
+use Rattle.desk.specs.declared.Slot.{Slot}
+use Rattle.desk.specs.declared.Slot.TheVariants.{Matinee as matinee, Evening as evening, Either as either}
 
 pub record Record : Type 0 where
   pub day : ℕ

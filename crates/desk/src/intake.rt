@@ -5,22 +5,14 @@ ghost use Rattle.desk.specs.Records.{between, record_in_range, words_in_range, a
 fn between(low: u32, n: u32, high: u32) -> bool
     ensures { result ≡ between low high n }
 {
-    if n < low {
-        return false;
-    }
-    n <= high
+    low <= n && n <= high
 }
 
+#[tactic(auto, unfolding(crate::specs::Records::record_in_range))]
 fn record_in_range(day: u32, house: u32, slot: u32) -> bool
     ensures { result ≡ record_in_range day house slot }
 {
-    if !between(1, day, 366) {
-        return false;
-    }
-    if !between(1, house, 999) {
-        return false;
-    }
-    between(1, slot, 3)
+    between(1, day, 366) && between(1, house, 999) && between(1, slot, 3)
 }
 
 fn words_in_range(words: &[u32]) -> bool
@@ -36,17 +28,12 @@ fn words_in_range(words: &[u32]) -> bool
     i == words.len()
 }
 
+#[tactic(auto, unfolding(crate::specs::Records::acceptable))]
 pub(crate) fn acceptable(records: &[u32], day: u32, house: u32) -> bool
     ensures { result ≡ acceptable records.now day house }
 {
-    if !between(1, day, 366) {
-        return false;
-    }
-    if !between(1, house, 999) {
-        return false;
-    }
-    if 1500 < records.len() {
-        return false;
-    }
-    words_in_range(records)
+    between(1, day, 366)
+        && between(1, house, 999)
+        && records.len() <= 1500
+        && words_in_range(records)
 }

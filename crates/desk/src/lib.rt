@@ -2,7 +2,7 @@
 #![tactic(auto)]
 
 ghost use Rattle.std.specs.Prelude.{◌≡◌, true, false};
-ghost use Rattle.desk.specs.Records.{matinee, records_of, acceptable};
+ghost use Rattle.desk.specs.Records.{records_of, acceptable};
 ghost use Rattle.desk.specs.Desk.{recorded, desk_says, slots, no_slot, values_of};
 ghost use Rattle.desk.specs.Asking.{NeitherRecorded, any_reported, evening_reported};
 
@@ -11,6 +11,14 @@ use ask::Answer;
 mod ask;
 mod file;
 mod intake;
+
+// A record states a matinee or an evening, or leaves open which of the two it was; a question is for one of them, or for any slot.
+#[derive(Clone, Copy)]
+pub enum Slot {
+    Matinee,
+    Evening,
+    Either,
+}
 
 // What the desk reports.
 #[derive(Clone, Copy)]
@@ -32,7 +40,7 @@ fn any_slot(records: &[u32], day: u32, house: u32, third: u32) -> Report
     requires { (acceptable records.now day house ≡ true) × NeitherRecorded (records_of records.now) day house }
     ensures { result ≡ any_reported (records_of records.now) day house third }
 {
-    match ask::ask(records, day, house, 3, third) {
+    match ask::ask(records, day, house, Slot::Either, third) {
         Answer::BudgetEnded => Report::RanOut,
         Answer::Found => Report::Either,
         Answer::NoneFound => Report::NotRecorded,
@@ -44,7 +52,7 @@ fn beside_matinee(records: &[u32], day: u32, house: u32, second: u32, third: u32
     requires { acceptable records.now day house ≡ true }
     ensures { result ≡ evening_reported true (records_of records.now) day house second third }
 {
-    match ask::ask(records, day, house, 2, second) {
+    match ask::ask(records, day, house, Slot::Evening, second) {
         Answer::BudgetEnded => Report::RanOut,
         Answer::Found => Report::MatineeAndEvening,
         Answer::NoneFound => Report::Matinee,
@@ -53,10 +61,10 @@ fn beside_matinee(records: &[u32], day: u32, house: u32, second: u32, third: u32
 
 // No matinee is stated: the question for evening, and if need be for any slot.
 fn without_matinee(records: &[u32], day: u32, house: u32, second: u32, third: u32) -> Report
-    requires { (acceptable records.now day house ≡ true) × (recorded day house matinee (records_of records.now) ≡ false) }
+    requires { (acceptable records.now day house ≡ true) × (recorded day house Slot.Matinee (records_of records.now) ≡ false) }
     ensures { result ≡ evening_reported false (records_of records.now) day house second third }
 {
-    match ask::ask(records, day, house, 2, second) {
+    match ask::ask(records, day, house, Slot::Evening, second) {
         Answer::BudgetEnded => Report::RanOut,
         Answer::Found => Report::Evening,
         Answer::NoneFound => any_slot(records, day, house, third),
@@ -77,7 +85,7 @@ pub fn ask_desk(
     if !intake::acceptable(records, day, house) {
         return Report::Refused;
     }
-    match ask::ask(records, day, house, 1, first) {
+    match ask::ask(records, day, house, Slot::Matinee, first) {
         Answer::BudgetEnded => Report::RanOut,
         Answer::Found => beside_matinee(records, day, house, second, third),
         Answer::NoneFound => without_matinee(records, day, house, second, third),

@@ -5,9 +5,8 @@ use Prim.Native.Nat.{ℕ}
 use Rattle.words.specs.Steps.{step_of}
 use Rattle.text.specs.Quoted.{bytes}
 use Rattle.text.specs.Digits.{digits_of, significant}
-use Rattle.leaves.specs.Leaves.{opens, other, hung, started, open_after, leftmost}
+use Rattle.leaves.specs.Leaves.{opens, other, leaf_of, hung, started, open_after, leftmost}
 use Rattle.drawing.specs.Graph.{node_text, stroke_text, between_text, line_text, lines_text, under_text, arrow_text, reduction_text}
-use Rattle.leaves.specs.declared.leaf.Leaf.TheVariants.{Open}
 
 unfoldable opened : Unit {0}
 unfolding step_of digits_of significant opens other hung started open_after node_text stroke_text between_text line_text lines_text under_text arrow_text reduction_text
@@ -24,6 +23,6 @@ lines : under_text (leftmost sizes 1 steps 0) 1 0 2 ≡ bytes "  n0_0 -> n1_0 [s
 unfolding opened
 lines = refl
 
-arrow : reduction_text (Open 1 0 1) (Open 0 1 0) ≡ bytes "  n1_1 -> n0_0 [style=dashed, arrowhead=normal, constraint=false];\n"
+arrow : reduction_text (leaf_of 1 0 1) (leaf_of 0 1 0) ≡ bytes "  n1_1 -> n0_0 [style=dashed, arrowhead=normal, constraint=false];\n"
 unfolding opened
 arrow = refl

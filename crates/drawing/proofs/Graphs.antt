@@ -22,7 +22,7 @@ use Rattle.leaves.specs.Bound.{copy_number, told_text}
 use Rattle.drawing.specs.Graph.{node_text, label_text, literal_line, literal_lines, box_text, copy_text, stroke_text, between_text, line_text, lines_text, under_text, arrow_text, reduction_text, step_drawn, steps_drawn, copies_text, tableau_text, draw_text}
 use Rattle.leaves.proofs.Showing.{no_bytes, take_within, sized_whole}
 use Rattle.leaves.specs.declared.leaf.Leaf.{Leaf}
-use Rattle.leaves.specs.declared.leaf.Leaf.TheVariants.{Open, Nothing}
+use Rattle.std.specs.Prelude.{Option, Some, None}
 
 module _ {o₀ o₁ : List ℕ} {n₀ n₁ : ℕ} where
   pub stroke_bold : {b : Bool} → b ≡ true → Put o₀ n₀ (bytes " [style=bold];\n") o₁ n₁ → Put o₀ n₀ (stroke_text b) o₁ n₁
@@ -33,13 +33,13 @@ module _ {o₀ o₁ : List ℕ} {n₀ n₁ : ℕ} where
   unfolding stroke_text
   stroke_plain e p = rw e p
 
-  module _ {leaf : Leaf} where
-    pub under_leaf : (below entered size : ℕ) {number clause literal : ℕ} → leaf ≡ Open number clause literal
-        → Put o₀ n₀ (lines_text number literal below entered 0 size) o₁ n₁ → Put o₀ n₀ (under_text leaf below entered size) o₁ n₁
+  module _ {leaf : Option Leaf} where
+    pub under_leaf : (below entered size : ℕ) {l : Leaf} → leaf ≡ Some l
+        → Put o₀ n₀ (lines_text l.number l.literal below entered 0 size) o₁ n₁ → Put o₀ n₀ (under_text leaf below entered size) o₁ n₁
     unfolding under_text
     under_leaf below entered size e p = rw e p
 
-    pub reduction_leaf : (to : Leaf) {number clause literal : ℕ} → leaf ≡ Open number clause literal → Put o₀ n₀ (arrow_text number literal to) o₁ n₁
+    pub reduction_leaf : (to : Option Leaf) {l : Leaf} → leaf ≡ Some l → Put o₀ n₀ (arrow_text l.number l.literal to) o₁ n₁
         → Put o₀ n₀ (reduction_text leaf to) o₁ n₁
     unfolding reduction_text
     reduction_leaf to e p = rw e p
@@ -55,7 +55,7 @@ module _ {o₀ o₁ : List ℕ} {n₀ n₁ : ℕ} where
     unfolding line_text
     line_is number literal below entered other p q = joined p q
 
-    pub arrow_leaf : (number literal : ℕ) {to : Leaf} {above clause other : ℕ} → to ≡ Open above clause other → Put o₀ n₀ (between_text number literal above other) o₁ n₁
+    pub arrow_leaf : (number literal : ℕ) {to : Option Leaf} {l : Leaf} → to ≡ Some l → Put o₀ n₀ (between_text number literal l.number l.literal) o₁ n₁
         → Put o₁ n₁ (bytes " [style=dashed, arrowhead=normal, constraint=false];\n") o₂ n₂ → Put o₀ n₀ (arrow_text number literal to) o₂ n₂
     unfolding arrow_text
     arrow_leaf number literal e p q = rw e (joined p q)
@@ -101,12 +101,12 @@ module _ {o₀ o₁ : List ℕ} {n₀ n₁ : ℕ} where
     unfolding copies_text
     copies_is S sizes question steps e p q = joined (rw e at p) q
 
-module _ (out : List ℕ) (at : ℕ) {leaf : Leaf} (e : leaf ≡ Nothing) where
+module _ (out : List ℕ) (at : ℕ) {leaf : Option Leaf} (e : leaf ≡ None) where
   pub under_none : (below entered size : ℕ) → Put out at (under_text leaf below entered size) out at
   unfolding under_text
   under_none below entered size = rw e (no_bytes out at)
 
-  pub reduction_none : (to : Leaf) → Put out at (reduction_text leaf to) out at
+  pub reduction_none : (to : Option Leaf) → Put out at (reduction_text leaf to) out at
   unfolding reduction_text
   reduction_none to = rw e (no_bytes out at)
 
@@ -176,8 +176,8 @@ module _ {number literal below entered size : ℕ} {first : List ℕ} {from : �
 pub ruleset lining_laws = (lining_begin, lining_over, lining_on)
 
 -- a step
-module _ (S : Source) (sizes : List ℕ) (question : ℕ) (steps : List ℕ) (done : ℕ) {w : ℕ} (ew : w ≡ get_or steps done 0) {s : Step} (es : s ≡ step_of w) {leaf : Leaf} (el : leaf ≡ leftmost sizes question steps done) {out left : List ℕ} {from end : ℕ} where
-  pub drawn_reduction : {height : ℕ} → s ≡ Reduction height → {to : Leaf} → to ≡ ancestor sizes question steps height leaf → Put out from (reduction_text leaf to) left end
+module _ (S : Source) (sizes : List ℕ) (question : ℕ) (steps : List ℕ) (done : ℕ) {w : ℕ} (ew : w ≡ get_or steps done 0) {s : Step} (es : s ≡ step_of w) {leaf : Option Leaf} (el : leaf ≡ leftmost sizes question steps done) {out left : List ℕ} {from end : ℕ} where
+  pub drawn_reduction : {height : ℕ} → s ≡ Reduction height → {to : Option Leaf} → to ≡ ancestor sizes question steps height leaf → Put out from (reduction_text leaf to) left end
       → Put out from (step_drawn S sizes question steps done (step_of (get_or steps done 0))) left end
   unfolding step_drawn
   drawn_reduction k et p = rw (← ew, ← es, k, ← el, ← et) p

@@ -1,6 +1,6 @@
 -- A closed tableau as Graphviz text. Each copy of a clause is a box with its clause's name, and in it each literal is a node. Lines go from a leaf to the
 -- literals of the copy that hangs under it, the one to the closed pair's bold; a reduction is a dashed arrow from the leaf to its ancestor.
-use Rattle.std.specs.Prelude.{Bool, true, false, List, [], ◌++◌, ℕ, zero, suc, eqb, length, take, get_or}
+use Rattle.std.specs.Prelude.{Bool, true, false, List, [], ◌++◌, ℕ, zero, suc, eqb, length, take, get_or, Option, Some, None}
 use Rattle.words.specs.Steps.{step_of}
 use Rattle.words.specs.declared.Step.{Step}
 use Rattle.words.specs.declared.Step.TheVariants.{Reduction, Extension, Restart, Malformed}
@@ -10,7 +10,6 @@ use Rattle.leaves.specs.Leaves.{leftmost, ancestor}
 use Rattle.leaves.specs.Shown.{Source, sizes_in, question_in, literal_cut, name_cut}
 use Rattle.leaves.specs.Bound.{copy_number, told_text}
 use Rattle.leaves.specs.declared.leaf.Leaf.{Leaf}
-use Rattle.leaves.specs.declared.leaf.Leaf.TheVariants.{Open, Nothing}
 
 -- a node is a literal of the copy that a step hung
 unfoldable pub node_text : ℕ → ℕ → List ℕ
@@ -55,19 +54,19 @@ lines_text number literal below entered other zero = []
 lines_text number literal below entered other (suc more) =
     line_text number literal below entered other ++ lines_text number literal below entered (suc other) more
 
-unfoldable pub under_text : Leaf → ℕ → ℕ → ℕ → List ℕ
-under_text (Open number clause literal) below entered size = lines_text number literal below entered 0 size
-under_text Nothing below entered size = []
+unfoldable pub under_text : Option Leaf → ℕ → ℕ → ℕ → List ℕ
+under_text (Some leaf) below entered size = lines_text leaf.number leaf.literal below entered 0 size
+under_text None below entered size = []
 
 -- a reduction's arrow, which does not move the nodes
-unfoldable pub arrow_text : ℕ → ℕ → Leaf → List ℕ
-arrow_text number literal (Open above clause other) =
-    between_text number literal above other ++ bytes " [style=dashed, arrowhead=normal, constraint=false];\n"
-arrow_text number literal Nothing = []
+unfoldable pub arrow_text : ℕ → ℕ → Option Leaf → List ℕ
+arrow_text number literal (Some to) =
+    between_text number literal to.number to.literal ++ bytes " [style=dashed, arrowhead=normal, constraint=false];\n"
+arrow_text number literal None = []
 
-unfoldable pub reduction_text : Leaf → Leaf → List ℕ
-reduction_text (Open number clause literal) to = arrow_text number literal to
-reduction_text Nothing to = []
+unfoldable pub reduction_text : Option Leaf → Option Leaf → List ℕ
+reduction_text (Some leaf) to = arrow_text leaf.number leaf.literal to
+reduction_text None to = []
 
 -- a step after so many others
 unfoldable pub step_drawn : Source → List ℕ → ℕ → List ℕ → ℕ → Step → List ℕ

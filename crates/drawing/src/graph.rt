@@ -77,12 +77,10 @@ fn literal_lines(
     ensures { Put out.old from (literal_lines (record { text = text.now; index = index.now; file = file.now; bound = bound.now }) number made clause 0 size) out.new result }
 {
     let mut at = from;
-    let mut literal: u32 = 0;
-    while literal < size {
+    for literal in 0..size {
         at = literal_line(
             text, index, file, bound, number, made, clause, literal, out, at,
         );
-        literal += 1;
     }
     at
 }
@@ -173,30 +171,35 @@ fn lines(
     ensures { Put out.old from (lines_text number literal below entered 0 size) out.new result }
 {
     let mut at = from;
-    let mut other: u32 = 0;
-    while other < size {
+    for other in 0..size {
         at = line(number, literal, below, entered, other, out, at);
-        other += 1;
     }
     at
 }
 
-fn under(leaf: Leaf, below: u32, entered: u32, size: u32, out: &mut [u8], from: usize) -> usize
+fn under(
+    leaf: Option<Leaf>,
+    below: u32,
+    entered: u32,
+    size: u32,
+    out: &mut [u8],
+    from: usize,
+) -> usize
     ensures { Put out.old from (under_text leaf below entered size) out.new result }
 {
     match leaf {
-        Leaf::Open(number, _, literal) => lines(number, literal, below, entered, size, out, from),
-        Leaf::Nothing => from,
+        Some(leaf) => lines(leaf.number, leaf.literal, below, entered, size, out, from),
+        None => from,
     }
 }
 
-fn arrow(number: u32, literal: u32, to: Leaf, out: &mut [u8], from: usize) -> usize
+fn arrow(number: u32, literal: u32, to: Option<Leaf>, out: &mut [u8], from: usize) -> usize
     ensures { Put out.old from (arrow_text number literal to) out.new result }
 {
-    let Leaf::Open(above, _, other) = to else {
+    let Some(to) = to else {
         return from;
     };
-    let a = between(number, literal, above, other, out, from);
+    let a = between(number, literal, to.number, to.literal, out, from);
     put::bytes(
         out,
         a,
@@ -205,12 +208,12 @@ fn arrow(number: u32, literal: u32, to: Leaf, out: &mut [u8], from: usize) -> us
 }
 
 // A reduction's arrow.
-fn reduction(leaf: Leaf, to: Leaf, out: &mut [u8], from: usize) -> usize
+fn reduction(leaf: Option<Leaf>, to: Option<Leaf>, out: &mut [u8], from: usize) -> usize
     ensures { Put out.old from (reduction_text leaf to) out.new result }
 {
     match leaf {
-        Leaf::Open(number, _, literal) => arrow(number, literal, to, out, from),
-        Leaf::Nothing => from,
+        Some(leaf) => arrow(leaf.number, leaf.literal, to, out, from),
+        None => from,
     }
 }
 
@@ -220,7 +223,7 @@ fn extension(
     index: &[u32],
     file: &[u32],
     bound: &[u32],
-    leaf: Leaf,
+    leaf: Option<Leaf>,
     number: u32,
     made: u32,
     clause: u32,
@@ -295,12 +298,10 @@ fn steps_drawn(
     ensures { Put out.old from (steps_drawn (record { text = text.now; index = index.now; file = file.now; bound = bound.now }) sizes.now question steps.now 0 (length steps.now)) out.new result }
 {
     let mut at = from;
-    let mut i = 0;
-    while i < steps.len() {
+    for i in 0..steps.len() {
         at = step(
             text, index, file, bound, sizes, question, steps, i as u32, out, at,
         );
-        i += 1;
     }
     at
 }

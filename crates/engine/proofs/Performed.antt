@@ -3,7 +3,7 @@ use mathlib.Core.Path.{◌≡◌, refl, sym, ap, ◌∙◌}
 use mathlib.Core.Bool.{true, cond, not}
 use mathlib.Core.List.{List, [], ◌∷◌, ◌++◌}
 use mathlib.Core.Option.{none, some}
-use Prim.Native.Nat.{ℕ, zero, suc, ◌+◌, ◌*◌, ◌-◌, ◌/◌, ◌%◌, ◌^◌, ◌≤◌, ◌<◌}
+use Prim.Native.Nat.{ℕ, suc, ◌+◌, ◌*◌, ◌-◌, ◌/◌, ◌%◌, ◌^◌, ◌≤◌, ◌<◌}
 use native.Mathlib.Numerals.{add-one}
 use native.Mathlib.Omega.{arith}
 use borrow.Author.Tests.{eq-eqb}
@@ -19,21 +19,21 @@ use Rattle.table.specs.Decode.{clause_of}
 use Rattle.rules.specs.Setting.{Setting}
 use Rattle.rules.specs.Substitution.{Variable}
 use Rattle.rules.specs.Tableau.{Leaf, Tableau, atom, fits, ancestor, closing, copy_of, hang, questions_with, after_reduction, after_restart, fresh, stepped}
-use Rattle.rules.specs.Machinery.Unify.{Unified, made, unify}
+use Rattle.rules.specs.Machinery.Unify.{Unified, unify}
 use Rattle.rules.specs.Machinery.Play.{Play, bound_by, newest, closes_pair, performed, perform}
 use Rattle.rules.proofs.Steps.{reduces, extends, restarts, MayExtend, MayRestart, done, after_entry}
 use Rattle.unification.specs.State.{start_at, copies_of, next_at, own_words, ClauseAt, words_at, literal_at_reference, bindings_in}
 use Rattle.unification.specs.Good.{word_at, Inside, LiteralStands, Good, Outcome}
 use Rattle.tableaux.specs.Leaves.{chain, leaf_at, leaves_from, questions_among}
-use Rattle.tableaux.specs.Ready.{open_leaves, Ready, Stands, Alike, rest_of, Reduced, Hung, OneMore, Extended, Restarted}
+use Rattle.tableaux.specs.Ready.{closed_at, open_leaves, Ready, Stands, Alike, rest_of, Reduced, Hung, OneMore, Extended, Restarted}
 use Rattle.engine.specs.Performing.{Comes}
 use Rattle.index.specs.Scanning.{other_sign}
 use Rattle.tableaux.specs.Entering.{Owes, LiteralAt, Enters, extension_at}
 use Rattle.index.specs.declared.entries.Scan.{Scan}
 use Rattle.tableaux.specs.declared.tableau.Place.{Place}
-use Rattle.tableaux.specs.declared.tableau.Taken.{Taken}
-use Rattle.unification.specs.declared.unify.Meeting.{Meeting}
-use Rattle.unification.specs.declared.unify.Meeting.TheVariants.{Made, Clash, Circle}
+use Rattle.std.specs.Prelude.{Result, Ok, Err}
+use Rattle.unification.specs.declared.unify.Unmet.{Unmet}
+use Rattle.unification.specs.declared.unify.Unmet.TheVariants.{Clash, Circle}
 use Rattle.tableaux.proofs.Chains.{chain_at, chain_past}
 use Rattle.tableaux.proofs.Leaves.{questions_same}
 use Rattle.engine.proofs.Literals.Fitting.{fits_by_word, other_word}
@@ -71,12 +71,12 @@ module _ (S : Setting) (p : Play) (s : Step) where
   unfolding perform performed newest closing
   performs l n c e h = rw (c, e, h)
 
-comes : (f m : List ℕ) (question : ℕ) (place : Place) (meeting : Meeting) (u : Unified) → Outcome f m meeting u → (y : Tableau)
-    → (meeting ≡ Made → Stands f m question place y (bindings_in f m)) → Comes f m question place meeting (bound_by y u)
+comes : (f m : List ℕ) (question : ℕ) (r : Result Place Unmet) (u : Unified) → Outcome f m r u → (y : Tableau)
+    → ((next : Place) → r ≡ Ok next → Stands f m question next y (bindings_in f m)) → Comes f m question r (bound_by y u)
 unfolding bound_by
-comes f m question place Made u o y s = rw o (record { tableau = y; bindings = bindings_in f m }, refl, s refl)
-comes f m question place Clash u o y s = rw o
-comes f m question place Circle u o y s = rw o
+comes f m question (Ok next) u o y s = rw o (record { tableau = y; bindings = bindings_in f m }, refl, s next refl)
+comes f m question (Err Clash) u o y s = rw o
+comes f m question (Err Circle) u o y s = rw o
 
 -- a literal that stands: its word, and its arguments
 pub record Literate (f m : List ℕ) (r : ℕ) : Type 0 where
@@ -182,7 +182,7 @@ reduction_performs S {f} {m} {question} {place} other ready some_open p stands h
     ∙ ap (λ bs. bound_by (reduced_to f m place other p.tableau) (unify bs (atom (leaf_at f m (place.head - 1)).literal) (atom (literal_at_reference f m other)))) stands.bindings
 
 -- a reduction that was taken
-module _ (S : Setting) {f m m' : List ℕ} {question : ℕ} {place : Place} {other step : ℕ} {r : Taken} (ready : Ready f m place) (some_open : 0 < place.head)
+module _ (S : Setting) {f m m' : List ℕ} {question : ℕ} {place : Place} {other step : ℕ} {r : Result Place Unmet} (ready : Ready f m place) (some_open : 0 < place.head)
     (reduced : Reduced f m m' place other step r) (p : Play) (stands : Stands f m question place p.tableau p.bindings) where
   abbrev leaf : Leaf
   leaf = leaf_at f m (place.head - 1)
@@ -192,7 +192,7 @@ module _ (S : Setting) {f m m' : List ℕ} {question : ℕ} {place : Place} {oth
     abbrev after : Tableau
     after = reduced_to f m place other p.tableau
 
-    reduction-stands : Stands f m' question r.place after (bindings_in f m')
+    reduction-stands : Stands f m' question (closed_at m place) after (bindings_in f m')
     reduction-stands =
         record {
           leaves = sym reduced.leaves;
@@ -204,10 +204,10 @@ module _ (S : Setting) {f m m' : List ℕ} {question : ℕ} {place : Place} {oth
               ∙ ap (questions_among m' question) (sym reduced.copies);
         }
 
-    pub reduction_comes : Comes f m' question r.place r.meeting (perform S p (Reduction height))
+    pub reduction_comes : Comes f m' question r (perform S p (Reduction height))
     reduction_comes =
         rw (reduction_performs S other ready some_open p stands height there fitting)
-        (comes f m' question r.place r.meeting _ reduced.outcome after (λ _. reduction-stands))
+        (comes f m' question r _ reduced.outcome after (λ next e. rw (reduced.leads next e) reduction-stands))
 
 -- one copy more of a clause, among the copies of the question
 module _ {f m m' : List ℕ} {place : Place} {start step : ℕ} (one : OneMore f m m' place start step) (question : ℕ) where
@@ -216,7 +216,7 @@ module _ {f m m' : List ℕ} {place : Place} {start step : ℕ} (one : OneMore f
   copies_asked = rw (one.copies, add-one, questions_same m m' question (copies_of m) one.stepping.later.starts, one.starts)
 
 -- an extension that was taken
-module _ (S : Setting) {f m m' : List ℕ} {question : ℕ} {place : Place} {step : ℕ} {r : Taken} (ready : Ready f m place) (some_open : 0 < place.head)
+module _ (S : Setting) {f m m' : List ℕ} {question : ℕ} {place : Place} {step : ℕ} {r : Result Place Unmet} (ready : Ready f m place) (some_open : 0 < place.head)
     (scan : Scan) (enters : Enters f S.table question scan) (extended : Extended f m m' place scan.start (scan.at - scan.start) step r)
     (p : Play) (stands : Stands f m question place p.tableau p.bindings) where
   abbrev reference : ℕ
@@ -239,7 +239,7 @@ module _ (S : Setting) {f m m' : List ℕ} {question : ℕ} {place : Place} {ste
     unfolding questions_with
     asked = rw (copies_asked extended.copied question, enters.asks)
 
-    extension-stands : Hung f m m' place r.place scan.start (scan.at - scan.start) → Stands f m' question r.place grown (bindings_in f m')
+    extension-stands : {next : Place} → Hung f m m' place next scan.start (scan.at - scan.start) → Stands f m' question next grown (bindings_in f m')
     extension-stands hung =
         record {
           leaves =
@@ -252,12 +252,12 @@ module _ (S : Setting) {f m m' : List ℕ} {question : ℕ} {place : Place} {ste
           questions = rw (copy-number, stands.questions) asked;
         }
 
-    pub extension_comes : Comes f m' question r.place r.meeting (perform S p (extension_at scan))
+    pub extension_comes : Comes f m' question r (perform S p (extension_at scan))
     extension_comes =
         let literal : get_elem? (copy_of (suc p.tableau.extensions) clause) scan.literals ≡ some (literal_at_reference f m' reference) =
         rw copy-number (copy_entered enters.begins m' (copies_of m) extended.copied.starts scan.literals enters.offset) in
         rw (performs S p (extension_at scan) {y = grown} treated.literal (literal_at_reference f m' reference) refl (done (extends (stands.leaves ∙ open_first ready some_open) may enters.clause literal fitting refl)) refl, stands.bindings)
-        (comes f m' question r.place r.meeting _ extended.outcome grown (λ e. extension-stands (extended.hung e)))
+        (comes f m' question r _ extended.outcome grown (λ next e. extension-stands (extended.hung next e)))
 
 -- a restart that was taken
 module _ (S : Setting) {f m m' : List ℕ} {question : ℕ} {place next : Place} {step : ℕ} (ready : Ready f m place) (some_open : 0 < place.head)
@@ -282,7 +282,7 @@ module _ (S : Setting) {f m m' : List ℕ} {question : ℕ} {place next : Place}
         questions = rw (stands.extensions, stands.questions) (sym (copies_asked restarted.copied question ∙ rw (eq-eqb question question refl)));
       }
 
-  pub restart_comes : MayRestart S p.tableau left_open → Comes f m' question next Made (perform S p Restart)
+  pub restart_comes : MayRestart S p.tableau left_open → Comes f m' question (Ok next) (perform S p Restart)
   unfolding perform performed
   restart_comes may =
       let goes : stepped S p.tableau Restart ≡ some begun_again = done (restarts (stands.leaves ∙ open_first ready some_open) may refl) in

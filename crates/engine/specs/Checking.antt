@@ -1,6 +1,6 @@
 -- Machinery: what the functions of the checker promise one another, and what its verdict stands for. No public contract speaks of it.
-use Rattle.std.specs.Prelude.{Bool, true, false, cond, List, ◌≡◌, ℕ, ◌+◌, ◌-◌, ◌≤◌, ◌<◌, eqb, length}
-use Rattle.std.proofs.Math.Option.{Option, none, some}
+use Rattle.std.specs.Prelude.{Result, Ok, Err, Option, Some, None, Bool, true, false, cond, List, ◌≡◌, ℕ, ◌+◌, ◌-◌, ◌≤◌, ◌<◌, eqb, length}
+use Rattle.std.proofs.Math.Option.{Option as Maybe, none, some}
 use Rattle.std.proofs.Math.ListN.{get_elem?}
 use Rattle.words.specs.declared.Step.{Step}
 use Rattle.words.specs.declared.Step.TheVariants.{Reduction, Extension, Restart, Malformed as AMalformed}
@@ -9,7 +9,8 @@ use Rattle.table.specs.Decode.{clause_of}
 use Rattle.table.specs.Syntax.{Clause, all_clauses}
 use Rattle.rules.specs.Setting.{profile_of, read_step, read_steps}
 use Rattle.rules.specs.Comparison.{a_clash, a_circle}
-use Rattle.rules.specs.Verdict.{Refusal, malformed, not_allowed, not_unified, status_of}
+use Rattle.rules.specs.Verdict as Verdict
+use Rattle.rules.specs.Verdict.{malformed, not_allowed, not_unified, leaves_open, status_of}
 use Rattle.rules.specs.Machinery.Play.{Play, Performed, goes_on, not_possible, clashes, circular, perform, refusal, passed, stopped, check}
 use Rattle.unification.specs.State.{start_at, copies_of, literal_at, parent_at, own_words}
 use Rattle.tableaux.specs.Leaves.{chain, leaf_at}
@@ -17,19 +18,14 @@ use Rattle.tableaux.specs.Ready.{Ready, Stands, Later}
 use Rattle.tableaux.specs.Entering.{Enters}
 use Rattle.index.specs.Noting.{Indexed}
 use Rattle.index.specs.declared.entries.Scan.{Scan}
-use Rattle.index.specs.declared.entries.Candidate.{Candidate}
-use Rattle.index.specs.declared.entries.Candidate.TheVariants.{Entry, Done}
 use Rattle.engine.specs.Ended.{setting_for, Ended}
 use Rattle.tableaux.specs.declared.tableau.Place.{Place}
-use Rattle.unification.specs.declared.unify.Meeting.{Meeting}
-use Rattle.unification.specs.declared.unify.Meeting.TheVariants.{Made, Clash, Circle}
+use Rattle.unification.specs.declared.unify.Unmet.{Unmet}
+use Rattle.unification.specs.declared.unify.Unmet.TheVariants.{Clash, Circle}
 use Rattle.engine.specs.declared.Conditions.{Conditions}
-use Rattle.engine.specs.declared.check.Above.{Above}
-use Rattle.engine.specs.declared.check.Above.TheVariants.{At, Nothing}
-use Rattle.engine.specs.declared.check.Judged.{Judged}
-use Rattle.engine.specs.declared.check.Judged.TheVariants.{On, Malformed, NotAllowed, Clashes, Circular}
-use Rattle.engine.specs.declared.check.Verdict.{Verdict}
-use Rattle.engine.specs.declared.check.Verdict.TheVariants.{Accepted, Refused}
+use Rattle.engine.specs.declared.check.Refusal.{Refusal}
+use Rattle.engine.specs.declared.check.Refusal.TheVariants.{Malformed, NotAllowed, Clashes, Circular, LeavesOpen}
+use Rattle.engine.specs.declared.check.Refused.{Refused}
 
 -- parents come before their children
 abbrev pub Upward : List ℕ → ℕ → Type 0
@@ -39,21 +35,25 @@ Upward m leaves = (c : ℕ) → c < leaves → parent_at m c ≤ c
 abbrev pub lineage : List ℕ → ℕ → List ℕ
 lineage m head = chain (literal_at m) (parent_at m) head head
 
-abbrev pub above_of : Option ℕ → Above
-above_of none = Nothing
-above_of (some reference) = At reference
+abbrev pub above_of : Maybe ℕ → Option ℕ
+above_of none = None
+above_of (some reference) = Some reference
 
-abbrev pub judged_by : Meeting → Place → Judged
-judged_by Made place = On place
-judged_by Clash place = Clashes
-judged_by Circle place = Circular
+abbrev pub judged_by : Result Place Unmet → Result Place Refusal
+judged_by (Ok place) = Ok place
+judged_by (Err Clash) = Err Clashes
+judged_by (Err Circle) = Err Circular
 
-abbrev pub status_for : Judged → ℕ
-status_for (On place) = 0
-status_for Malformed = status_of malformed
-status_for NotAllowed = status_of not_allowed
-status_for Clashes = status_of (not_unified a_clash)
-status_for Circular = status_of (not_unified a_circle)
+-- the rules' reason of a refusal, and its number
+abbrev pub reason : Refusal → Verdict.Refusal
+reason Malformed = malformed
+reason NotAllowed = not_allowed
+reason Clashes = not_unified a_clash
+reason Circular = not_unified a_circle
+reason LeavesOpen = leaves_open
+
+abbrev pub status_for : Refusal → ℕ
+status_for why = status_of (reason why)
 
 -- the body's literals are noted, where a check goes by notes
 abbrev pub NotedFor : Bool → List ℕ → List ℕ → Type 0
@@ -65,9 +65,9 @@ pub record LocatedAt (f : List ℕ) (clause literal : ℕ) (s : Scan) : Type 0 w
   pub clauses : s.clauses ≡ clause + 1
   pub literals : s.literals ≡ literal
 
-abbrev pub Located : List ℕ → ℕ → ℕ → Candidate → Type 0
-Located f clause literal (Entry s) = LocatedAt f clause literal s
-Located f clause literal Done = (c : Clause) → get_elem? (all_clauses (table_in f)) clause ≡ some c → get_elem? c.literals literal ≡ none
+abbrev pub Located : List ℕ → ℕ → ℕ → Option Scan → Type 0
+Located f clause literal (Some s) = LocatedAt f clause literal s
+Located f clause literal None = (c : Clause) → get_elem? (all_clauses (table_in f)) clause ≡ some c → get_elem? c.literals literal ≡ none
 
 -- the copy that a step makes, if it makes one, and its clause
 abbrev pub Copies : List ℕ → List ℕ → List ℕ → Step → Type 0
@@ -84,24 +84,22 @@ pub record Moved (f m m' : List ℕ) (s : Step) (place next : Place) : Type 0 wh
   pub later : Later m m' place
   pub copies : Copies f m m' s
 
-abbrev pub Moves : List ℕ → List ℕ → List ℕ → Step → Place → Judged → Type 0
-Moves f m m' s place (On next) = Moved f m m' s place next
-Moves f m m' s place Malformed = Unit {0}
-Moves f m m' s place NotAllowed = Unit {0}
-Moves f m m' s place Clashes = Unit {0}
-Moves f m m' s place Circular = Unit {0}
+abbrev pub Moves : List ℕ → List ℕ → List ℕ → Step → Place → Result Place Refusal → Type 0
+Moves f m m' s place (Ok next) = Moved f m m' s place next
+Moves f m m' s place (Err why) = Unit {0}
 
 -- a play that the work words stand for
 abbrev pub PlayAt : List ℕ → List ℕ → Place → Play → Type 0
 PlayAt f m place p = Stands f m (judge f).question place p.tableau p.bindings
 
 -- how a step was judged, by what the rules say of it
-abbrev pub Says : List ℕ → List ℕ → Step → Judged → Performed → Type 0
-Says f m s (On next) o = (q : Play) × (o ≡ goes_on q) × PlayAt f m next q
-Says f m s Malformed o = (o ≡ not_possible) × (refusal s ≡ malformed)
-Says f m s NotAllowed o = (o ≡ not_possible) × (refusal s ≡ not_allowed)
-Says f m s Clashes o = o ≡ clashes
-Says f m s Circular o = o ≡ circular
+abbrev pub Says : List ℕ → List ℕ → Step → Result Place Refusal → Performed → Type 0
+Says f m s (Ok next) o = (q : Play) × (o ≡ goes_on q) × PlayAt f m next q
+Says f m s (Err Malformed) o = (o ≡ not_possible) × (refusal s ≡ malformed)
+Says f m s (Err NotAllowed) o = (o ≡ not_possible) × (refusal s ≡ not_allowed)
+Says f m s (Err Clashes) o = o ≡ clashes
+Says f m s (Err Circular) o = o ≡ circular
+Says f m s (Err LeavesOpen) o = ⊥
 
 -- a word read as a step
 abbrev pub read_for : Conditions → ℕ → Step
@@ -112,7 +110,7 @@ abbrev pub restarts_leaf : List ℕ → List ℕ → Conditions → Place → Bo
 restarts_leaf f m conditions place = cond (eqb place.head 0) false ((profile_of conditions.restarts).restarts (leaf_at f m (place.head - 1)).literal.negative)
 
 -- one step at a place, for every play that the work words stand for
-pub record Checked (f m m' : List ℕ) (conditions : Conditions) (place : Place) (word : ℕ) (r : Judged) : Type 0 where
+pub record Checked (f m m' : List ℕ) (conditions : Conditions) (place : Place) (word : ℕ) (r : Result Place Refusal) : Type 0 where
   pub moves : Moves f m m' (read_for conditions word) place r
   pub says : (p : Play) → PlayAt f m place p → Says f m' (read_for conditions word) r (perform (setting_for f conditions) p (read_for conditions word))
 
@@ -123,11 +121,9 @@ pub record AcceptedAs (f m : List ℕ) (question : ℕ) (conditions : Conditions
   pub passes : check (setting_for f conditions) (read_steps (profile_of conditions.restarts) offered) ≡ passed play
   pub ended : Ended f m question play
 
-pub record RefusedAs (f : List ℕ) (conditions : Conditions) (offered : List ℕ) (status place : ℕ) : Type 0 where
-  pub why : Refusal
-  pub stops : check (setting_for f conditions) (read_steps (profile_of conditions.restarts) offered) ≡ stopped why place
-  pub number : status ≡ status_of why
+pub record RefusedAs (f : List ℕ) (conditions : Conditions) (offered : List ℕ) (why : Refusal) (place : ℕ) : Type 0 where
+  pub stops : check (setting_for f conditions) (read_steps (profile_of conditions.restarts) offered) ≡ stopped (reason why) place
 
-abbrev pub Decided : List ℕ → List ℕ → ℕ → Conditions → List ℕ → Verdict → Type 0
-Decided f m question conditions offered (Accepted steps) = AcceptedAs f m question conditions offered steps
-Decided f m question conditions offered (Refused status place) = RefusedAs f conditions offered status place
+abbrev pub Decided : List ℕ → List ℕ → ℕ → Conditions → List ℕ → Result ℕ Refused → Type 0
+Decided f m question conditions offered (Ok steps) = AcceptedAs f m question conditions offered steps
+Decided f m question conditions offered (Err refused) = RefusedAs f conditions offered refused.why refused.place

@@ -1,5 +1,5 @@
 -- Machinery: how the search over the work words goes along with the rules' own. No public contract speaks of it.
-use Rattle.std.specs.Prelude.{Bool, true, cond, not, ◌&&◌, List, [], ◌∷◌, ◌++◌, map, ◌≡◌, ℕ, suc, ◌+◌, ◌*◌, ◌-◌, ◌/◌, ◌^◌, ◌≤◌, ◌<◌, eqb, leb, ltb, length, take, drop, get_or, set}
+use Rattle.std.specs.Prelude.{Result, Ok, Option, Some, None, Bool, true, cond, not, ◌&&◌, List, [], ◌∷◌, ◌++◌, map, ◌≡◌, ℕ, suc, ◌+◌, ◌*◌, ◌-◌, ◌/◌, ◌^◌, ◌≤◌, ◌<◌, eqb, leb, ltb, length, take, drop, get_or, set}
 use Rattle.std.proofs.Math.Option.{some}
 use Rattle.words.specs.Steps.{step_word}
 use Rattle.words.specs.declared.Step.{Step}
@@ -11,7 +11,7 @@ use Rattle.table.specs.Syntax.{Table, all_clauses}
 use Rattle.rules.specs.Setting.{Setting, profile_of, over}
 use Rattle.rules.specs.Order as order
 use Rattle.rules.specs.Machinery.Play.{Play, passed, perform, check_from, plays, search_for}
-use Rattle.rules.specs.Machinery.Run.{Result, way, no_way, ran_out, search, one, row}
+use Rattle.rules.specs.Machinery.Run.{Result as RunResult, way, no_way, ran_out, search, one, row}
 use Rattle.rules.specs.Tableau.{Leaf, ancestor}
 use Rattle.rules.specs.Verdict.{finds_none, runs_out}
 use Rattle.unification.specs.Places.{most_variables, step_places, copies_place}
@@ -26,8 +26,6 @@ use Rattle.index.specs.Places.{scanned_place, most_noted}
 use Rattle.index.specs.Noting.{keys_in, scans_in, ahead, count_at, Linked}
 use Rattle.index.specs.Scanning.{other_sign, entries_from}
 use Rattle.index.specs.declared.entries.Scan.{Scan}
-use Rattle.index.specs.declared.entries.Candidate.{Candidate}
-use Rattle.index.specs.declared.entries.Candidate.TheVariants.{Entry, Done}
 use Rattle.tableaux.specs.Entering.{Enters, extension_at}
 use Rattle.engine.specs.declared.Conditions.{Conditions}
 use Rattle.engine.specs.declared.search.Ending.{Ending}
@@ -37,8 +35,7 @@ use Rattle.engine.specs.declared.search.Move.TheVariants.{Reduce, Enter, Renew}
 use Rattle.engine.specs.declared.search.Searched.{Searched}
 use Rattle.engine.specs.declared.search.Task.{Task}
 use Rattle.tableaux.specs.declared.tableau.Place.{Place}
-use Rattle.tableaux.specs.declared.tableau.Taken.{Taken}
-use Rattle.unification.specs.declared.unify.Meeting.TheVariants.{Made}
+use Rattle.unification.specs.declared.unify.Unmet.{Unmet}
 
 -- the table and the question that are searched
 abbrev pub table_at : List ℕ → Task → Table
@@ -108,14 +105,14 @@ pub record Onward (f m m' : List ℕ) (task : Task) (place next : Place) : Type 
   pub steps : next.steps ≡ place.steps + 1
   pub falls : room_at f m' task next < room_at f m task place
 
-pub record Takes (f m m' : List ℕ) (task : Task) (place : Place) (candidate : Move) (r : Taken) : Type 0 where
+pub record Takes (f m m' : List ℕ) (task : Task) (place : Place) (candidate : Move) (r : Result Place Unmet) : Type 0 where
   pub good : Good f m'
   pub later : Later m m' place
   pub noted : step_at m' place.steps ≡ step_word (step_by candidate)
   pub comes :
       (p : Play) → Stands f m (question_at f task) place p.tableau p.bindings
-      → Comes f m' (question_at f task) r.place r.meeting (perform (setting_at f task) p (step_by candidate))
-  pub onward : r.meeting ≡ Made → Onward f m m' task place r.place
+      → Comes f m' (question_at f task) r (perform (setting_at f task) p (step_by candidate))
+  pub onward : (next : Place) → r ≡ Ok next → Onward f m m' task place next
 
 -- the bindings and copies made since are gone
 pub record Restored (f m m' : List ℕ) (count copies : ℕ) : Type 0 where
@@ -140,7 +137,7 @@ pub record Noting (f m m' : List ℕ) (place : Place) (r : Searched) : Type 0 wh
   pub earlier : (i : ℕ) → i < place.steps → step_at m' i ≡ step_at m i
   pub marks : (v : ℕ) → v < most_variables → numbered_at m' v ≡ numbered_at m v
 
-pub record Finds (f m' : List ℕ) (task : Task) (place : Place) (r : Searched) (p : Play) (result : Result Step) : Type 0 where
+pub record Finds (f m' : List ℕ) (task : Task) (place : Place) (r : Searched) (p : Play) (result : RunResult Step) : Type 0 where
   pub path : List Step
   pub play : Play
   pub says : result ≡ way path r.left
@@ -156,13 +153,13 @@ Leaves Found f m m' place r = Noting f m m' place r
 Leaves Nothing f m m' place r = Again f m m' place
 Leaves Out f m m' place r = count_at m ≤ most_noted → r.left ≡ 0
 
-abbrev pub Tells : Ending → List ℕ → List ℕ → Task → Place → Searched → Play → Result Step → Type 0
+abbrev pub Tells : Ending → List ℕ → List ℕ → Task → Place → Searched → Play → RunResult Step → Type 0
 Tells Found f m' task place r p result = Finds f m' task place r p result
 Tells Nothing f m' task place r p result = result ≡ no_way r.left
 Tells Out f m' task place r p result = r.left ≡ 0 → result ≡ ran_out
 
 -- A search from a place on, against what the rules say of every play that the work words stand for, to any depth that is enough.
-pub record Runs (f m m' : List ℕ) (task : Task) (place : Place) (budget : ℕ) (r : Searched) (says : ℕ → Play → Result Step) : Type 0 where
+pub record Runs (f m m' : List ℕ) (task : Task) (place : Place) (budget : ℕ) (r : Searched) (says : ℕ → Play → RunResult Step) : Type 0 where
   pub leaves : Leaves r.ending f m m' place r
   pub within : r.left ≤ budget
   pub tells :
@@ -201,9 +198,9 @@ Rowed f m m' task place budget r steps =
     Runs f m m' task place budget r (λ depth p. row (plays (setting_at f task)) depth budget p steps)
 
 -- where a scan has come to, and the cost of scans with one more that passed so many words, up to a limit
-abbrev pub reached_by : Candidate → ℕ → ℕ
-reached_by (Entry s) body = s.at
-reached_by Done body = body
+abbrev pub reached_by : Option Scan → ℕ → ℕ
+reached_by (Some s) body = s.at
+reached_by None body = body
 
 unfoldable pub costing : List ℕ → ℕ → ℕ → List ℕ
 costing m limit words = cond (ltb (get_or m scanned_place 0) limit) (set m scanned_place (get_or m scanned_place 0 + words + 16)) m

@@ -9,12 +9,12 @@ ghost use Rattle.index.specs.Scanning.{other_sign};
 ghost use Rattle.engine.specs.Checking.{Upward, lineage, above_of, judged_by, status_for, NotedFor, Located, read_for, restarts_leaf, Checked, Decided};
 
 use crate::{Conditions, profile, walk};
-use index::entries::Candidate;
+use index::entries::Scan;
 use index::{entries, notes};
 use tableaux::tableau;
-use tableaux::tableau::{Place, Taken};
+use tableaux::tableau::Place;
 use unification::memory;
-use unification::unify::Meeting;
+use unification::unify::Unmet;
 use words::{Step, fields};
 
 // The checker's statuses.
@@ -31,33 +31,25 @@ pub const CIRCULAR: u32 = 20;
 // The literals of the body are noted for a proof of more steps.
 const LONG: usize = 16;
 
-// What becomes of a step: the tableau goes on, or the step is malformed, not allowed, or its pair does not unify with what is bound: two symbols differ, or a variable would hold itself.
+// Why a step is refused: it is malformed, not allowed, or its pair does not unify with what is bound, since two symbols differ or a variable would hold itself; or why a whole proof is: leaves stay open.
 #[derive(Clone, Copy)]
-pub enum Judged {
-    On(Place),
+pub enum Refusal {
     Malformed,
     NotAllowed,
     Clashes,
     Circular,
+    LeavesOpen,
 }
 
-// The reference of an ancestor's literal.
+// Why a proof is refused, and at which step.
 #[derive(Clone, Copy)]
-pub enum Above {
-    At(u32),
-    Nothing,
+pub struct Refused {
+    pub why: Refusal,
+    pub place: u32,
 }
 
-#[derive(Clone, Copy)]
-pub enum Verdict {
-    // The number of steps.
-    Accepted(u32),
-    // The status, and the place.
-    Refused(u32, u32),
-}
-
-// The ancestor at a height: 1 is the parent.
-fn ancestor(work: &[u32], head: u32, height: u32) -> Above
+// The reference of the literal of the ancestor at a height: 1 is the parent.
+fn ancestor(work: &[u32], head: u32, height: u32) -> Option<u32>
     requires { (length work.now ≡ work_words) × (0 < head) × (head ≤ most_leaves) × Upward work.now head }
     ensures { result ≡ above_of (get_elem? (lineage work.now head) height) }
 {
@@ -66,11 +58,11 @@ fn ancestor(work: &[u32], head: u32, height: u32) -> Above
     while left != 0 {
         at = tableau::parent_of(work, at);
         if at == 0 {
-            return Above::Nothing;
+            return None;
         }
         left -= 1;
     }
-    Above::At(tableau::literal_of(work, at))
+    Some(tableau::literal_of(work, at))
 }
 
 // The word that fits the leftmost leaf.
@@ -81,33 +73,37 @@ fn wanted(file: &[u32], work: &[u32], place: Place) -> u32
     entries::other_sign(memory::word_at(file, work, tableau::literal_of(work, place.head)))
 }
 
-fn by_meeting(taken: Taken) -> Judged
-    ensures { result ≡ judged_by taken.meeting taken.place }
+fn by_meeting(taken: Result<Place, Unmet>) -> Result<Place, Refusal>
+    ensures { result ≡ judged_by taken }
 {
-    let meeting = taken.meeting;
-    let place = taken.place;
-    match meeting {
-        Meeting::Made => Judged::On(place),
-        Meeting::Clash => Judged::Clashes,
-        Meeting::Circle => Judged::Circular,
+    match taken {
+        Ok(place) => Ok(place),
+        Err(Unmet::Clash) => Err(Refusal::Clashes),
+        Err(Unmet::Circle) => Err(Refusal::Circular),
     }
 }
 
-fn reduction(file: &[u32], work: &mut [u32], place: Place, word: u32, height: u32) -> Judged
+fn reduction(
+    file: &[u32],
+    work: &mut [u32],
+    place: Place,
+    word: u32,
+    height: u32,
+) -> Result<Place, Refusal>
     requires { Ready file.now work.old place }
     ensures { (conditions : Conditions) → read_for conditions word ≡ Step.Reduction height → Checked file.now work.old work.new conditions place word result }
 {
     let head = place.head;
     if head == 0 {
-        return Judged::NotAllowed;
+        return Err(Refusal::NotAllowed);
     }
     let above = ancestor(work, head, height);
-    let Above::At(literal) = above else {
-        return Judged::NotAllowed;
+    let Some(literal) = above else {
+        return Err(Refusal::NotAllowed);
     };
     let found = memory::word_at(file, work, literal);
     if found != wanted(file, work, place) {
-        return Judged::NotAllowed;
+        return Err(Refusal::NotAllowed);
     }
     by_meeting(tableau::reduce(file, work, place, literal, word))
 }
@@ -132,7 +128,7 @@ pub fn prepare(file: &[u32], work: &mut [u32], noted: bool)
 }
 
 // The literal of a number in the clause of a number, by the notes or by a walk.
-fn entered(file: &[u32], work: &[u32], noted: bool, clause: u32, literal: u32) -> Candidate
+fn entered(file: &[u32], work: &[u32], noted: bool, clause: u32, literal: u32) -> Option<Scan>
     requires { ((judge file.now).status ≡ 0) × NotedFor noted file.now work.now × (clause < 512) }
     ensures { Located file.now clause literal result }
 {
@@ -151,24 +147,24 @@ fn extension(
     word: u32,
     clause: u32,
     literal: u32,
-) -> Judged
+) -> Result<Place, Refusal>
     requires { Ready file.now work.old place × ((judge file.now).status ≡ 0) × (conditions.bound ≤ 32) × (read_for conditions word ≡ Step.Extension clause literal) × NotedFor noted file.now work.old × (restarts_leaf file.now work.old conditions place ≡ false) }
     ensures { Checked file.now work.old work.new conditions place word result }
 {
     if place.head == 0 {
-        return Judged::NotAllowed;
+        return Err(Refusal::NotAllowed);
     }
     if conditions.bound < work[memory::COPIES] {
-        return Judged::NotAllowed;
+        return Err(Refusal::NotAllowed);
     }
     let found = entered(file, work, noted, clause, literal);
-    let Candidate::Entry(entry) = found else {
-        return Judged::NotAllowed;
+    let Some(entry) = found else {
+        return Err(Refusal::NotAllowed);
     };
     let at = entry.at;
     let start = entry.start;
     if file[fields::wide(at)] != wanted(file, work, place) {
-        return Judged::NotAllowed;
+        return Err(Refusal::NotAllowed);
     }
     by_meeting(tableau::extend(file, work, place, start, at - start, word))
 }
@@ -193,17 +189,17 @@ fn restart(
     conditions: Conditions,
     place: Place,
     word: u32,
-) -> Judged
+) -> Result<Place, Refusal>
     requires { Ready file.now work.old place × ((judge file.now).status ≡ 0) × (conditions.bound ≤ 32) × (question ≡ (judge file.now).question) × (read_for conditions word ≡ Step.Restart) }
     ensures { Checked file.now work.old work.new conditions place word result }
 {
     if !restarts_leaf(file, work, conditions, place) {
-        return Judged::NotAllowed;
+        return Err(Refusal::NotAllowed);
     }
     if conditions.bound < work[memory::COPIES] {
-        return Judged::NotAllowed;
+        return Err(Refusal::NotAllowed);
     }
-    Judged::On(tableau::restart(file, work, place, question, word))
+    Ok(tableau::restart(file, work, place, question, word))
 }
 
 pub fn step_taken(
@@ -214,7 +210,7 @@ pub fn step_taken(
     conditions: Conditions,
     place: Place,
     word: u32,
-) -> Judged
+) -> Result<Place, Refusal>
     requires { Ready file.now work.old place × ((judge file.now).status ≡ 0) × (conditions.bound ≤ 32) × NotedFor noted file.now work.old × (question ≡ (judge file.now).question) }
     ensures { Checked file.now work.old work.new conditions place word result }
 {
@@ -223,52 +219,58 @@ pub fn step_taken(
         Step::Reduction(height) => reduction(file, work, place, word, height),
         Step::Extension(clause, literal) => {
             if restarts_leaf(file, work, conditions, place) {
-                return Judged::NotAllowed;
+                return Err(Refusal::NotAllowed);
             }
             extension(file, work, noted, conditions, place, word, clause, literal)
         }
         Step::Restart => restart(file, work, question, conditions, place, word),
-        Step::Malformed => Judged::Malformed,
+        Step::Malformed => Err(Refusal::Malformed),
     }
 }
 
-// The number of the status of a step that was refused.
-fn status(judged: Judged) -> u32
-    ensures { result ≡ status_for judged }
+// Document 01's number of a refusal.
+pub fn status(why: Refusal) -> u32
+    ensures { result ≡ status_for why }
 {
-    match judged {
-        Judged::On(_) => 0,
-        Judged::Malformed => MALFORMED,
-        Judged::NotAllowed => NOT_ALLOWED,
-        Judged::Clashes => CLASHING,
-        Judged::Circular => CIRCULAR,
+    match why {
+        Refusal::Malformed => MALFORMED,
+        Refusal::NotAllowed => NOT_ALLOWED,
+        Refusal::Clashes => CLASHING,
+        Refusal::Circular => CIRCULAR,
+        Refusal::LeavesOpen => LEAVES_OPEN,
     }
 }
 
+// The number of steps of an accepted proof.
 pub fn run(
     file: &[u32],
     work: &mut [u32],
     question: u32,
     conditions: Conditions,
     offered: &[u32],
-) -> Verdict
+) -> Result<u32, Refused>
     requires { (length work.old ≡ work_words) × ((judge file.now).status ≡ 0) × (question ≡ (judge file.now).question) × (conditions.bound ≤ 32) }
     ensures { Decided file.now work.new question conditions offered.now result }
 {
     let noted = LONG < offered.len();
     prepare(file, work, noted);
     let mut place = tableau::begin(file, work, question);
-    let mut i = 0;
-    while i < offered.len() {
-        let judged = step_taken(file, work, noted, question, conditions, place, offered[i]);
-        let Judged::On(next) = judged else {
-            return Verdict::Refused(status(judged), place.steps);
-        };
-        place = next;
-        i += 1;
+    for word in offered {
+        match step_taken(file, work, noted, question, conditions, place, *word) {
+            Ok(next) => place = next,
+            Err(why) => {
+                return Err(Refused {
+                    why,
+                    place: place.steps,
+                });
+            }
+        }
     }
     if place.head != 0 {
-        return Verdict::Refused(LEAVES_OPEN, place.steps);
+        return Err(Refused {
+            why: Refusal::LeavesOpen,
+            place: place.steps,
+        });
     }
-    Verdict::Accepted(place.steps)
+    Ok(place.steps)
 }

@@ -6,6 +6,7 @@ ghost use Rattle.rules.specs.Setting.{profile_of};
 use words::fields;
 
 // Whether a leaf with this word is restarted; it is extended where it is not.
+#[tactic(auto, using(crate::proofs::Profiles::restarts_positive, crate::proofs::Profiles::restarts_none))]
 pub fn restarts(restarting: bool, word: u32) -> bool
     ensures { result ≡ (profile_of restarting).restarts (negative_of word) }
 {

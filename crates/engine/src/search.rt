@@ -13,11 +13,11 @@ ghost use Rattle.engine.specs.Searching.{without, Treats, Wanted, extends_at, Al
 ghost use Rattle.engine.specs.Nowhere.{Opening, Vain};
 
 use crate::{Conditions, profile, vain};
-use index::entries::{Candidate, Scan};
+use index::entries::Scan;
 use index::{entries, links, notes, places, scanning};
 use tableaux::tableau;
-use tableaux::tableau::{Place, Taken};
-use unification::unify::Meeting;
+use tableaux::tableau::Place;
+use unification::unify::Unmet;
 use unification::{memory, unify};
 use words::{Step, fields, steps};
 
@@ -46,7 +46,8 @@ pub enum Move {
     Renew,
 }
 
-#[derive(Clone, Copy)]
+// Three cases: two ways to find nothing are told apart, and neither is an error, so that no Option or Result says it.
+#[derive(Clone, Copy, Debug, PartialEq, Eq)]
 pub enum Ending {
     Found,
     Nothing,
@@ -73,7 +74,13 @@ fn without(ending: Ending, left: u32) -> Searched
 }
 
 // The candidate is tried.
-fn take(file: &[u32], work: &mut [u32], task: Task, place: Place, candidate: Move) -> Taken
+fn take(
+    file: &[u32],
+    work: &mut [u32],
+    task: Task,
+    place: Place,
+    candidate: Move,
+) -> Result<Place, Unmet>
     requires { Treats file.now work.old task place × (0 < place.head) × Allows file.now work.old task place candidate }
     ensures { Takes file.now work.old work.new task place candidate result }
 {
@@ -87,10 +94,7 @@ fn take(file: &[u32], work: &mut [u32], task: Task, place: Place, candidate: Mov
         }
         Move::Renew => {
             let step = steps::encode(Step::Restart);
-            Taken {
-                meeting: Meeting::Made,
-                place: tableau::restart(file, work, place, task.question, step),
-            }
+            Ok(tableau::restart(file, work, place, task.question, step))
         }
     }
 }
@@ -120,16 +124,14 @@ fn attempt(
     let count = work[memory::COUNT];
     let copies = work[memory::COPIES];
     let taken = take(file, work, task, place, candidate);
-    let meeting = taken.meeting;
-    let Meeting::Made = meeting else {
+    let Ok(next) = taken else {
         restore(work, count, copies);
         return without(Ending::Nothing, left);
     };
-    let tried = treat(file, work, task, taken.place, left);
-    let ending = tried.ending;
-    let Ending::Nothing = ending else {
+    let tried = treat(file, work, task, next, left);
+    if tried.ending != Ending::Nothing {
         return tried;
-    };
+    }
     restore(work, count, copies);
     tried
 }
@@ -167,16 +169,16 @@ fn reductions(
         }
         let candidate = Move::Reduce(literal, height);
         let tried = attempt(file, work, task, place, candidate, left - 1);
-        let ending = tried.ending;
-        let Ending::Nothing = ending else {
+        if tried.ending != Ending::Nothing {
             return tried;
-        };
+        }
         left = tried.left;
     }
     without(Ending::Nothing, left)
 }
 
 // Whether nothing can come of an extension: first arguments clash, or it is the last that the bound allows and leads to a leaf that no reduction closes.
+#[tactic(auto, using(crate::proofs::Nowhere::Seen::seen_laws, crate::proofs::Searching::Takes::enter_later, crate::proofs::Searching::Takes::extends))]
 fn in_vain(file: &[u32], work: &[u32], task: Task, place: Place, symbol: u32, scan: Scan) -> bool
     requires { Treats file.now work.now task place × (0 < place.head) × Allows file.now work.now task place (Move.Enter scan) × Opening file.now work.now (leaf_of work.now place) symbol }
     ensures { result ≡ true → Vain file.now work.now task place (Move.Enter scan) }
@@ -192,17 +194,18 @@ fn in_vain(file: &[u32], work: &[u32], task: Task, place: Place, symbol: u32, sc
 }
 
 // Where a scan has come to: a literal, or the end of the body.
-fn reached(found: Candidate, body: u32) -> u32
+fn reached(found: Option<Scan>, body: u32) -> u32
     ensures { result ≡ reached_by found body }
 {
     match found {
-        Candidate::Entry(scan) => scan.at,
-        Candidate::Done => body,
+        Some(scan) => scan.at,
+        None => body,
     }
 }
 
 // The next literal with a word, by a scan. What the scans of a search cost is counted, until it is as much as passing the body's words.
-fn sought(file: &[u32], work: &mut [u32], body: u32, wanted: u32, from: Scan) -> Candidate
+#[tactic(auto, using(crate::proofs::Searching::Scanned::reach_least, crate::proofs::Searching::Scanned::reach_most, crate::proofs::Searching::Scanned::costs_more, crate::proofs::Searching::Scanned::costs_same))]
+fn sought(file: &[u32], work: &mut [u32], body: u32, wanted: u32, from: Scan) -> Option<Scan>
     requires { (length work.old ≡ work_words) × (body ≤ length file.now) × (body ≤ 16000) × (kind_of wanted ≡ 2) × Standing (take body file.now) from }
     ensures { IsNext (take body file.now) wanted from result × (work.new ≡ costing work.old body (reached_by result body - from.at)) }
 {
@@ -217,14 +220,12 @@ fn sought(file: &[u32], work: &mut [u32], body: u32, wanted: u32, from: Scan) ->
 }
 
 // Whether a search by scans is given up: it has tries left, and its scans have cost as much as passing the body's words.
+#[tactic(auto, using(crate::proofs::Searching::Scanned::gives_up_out, crate::proofs::Searching::Scanned::gives_up_lem))]
 fn given_up(work: &[u32], body: u32, left: u32) -> bool
     requires { length work.now ≡ work_words }
     ensures { result ≡ gives_up work.now body left }
 {
-    if left == 0 {
-        return false;
-    }
-    body <= work[places::SCANNED]
+    left != 0 && body <= work[places::SCANNED]
 }
 
 // The extensions of the leftmost leaf from where a scan of the body stands, unless the search is given up. It calls itself for the next, so that the compiler keeps it out of the loops of a longer search.
@@ -245,17 +246,16 @@ fn extensions_by_scan(
         return without(Ending::Out, tries);
     }
     let candidate = sought(file, work, task.body, wanted, from);
-    let Candidate::Entry(entry) = candidate else {
+    let Some(entry) = candidate else {
         return without(Ending::Nothing, tries);
     };
     if tries == 0 {
         return without(Ending::Out, tries);
     }
     let tried = attempt(file, work, task, place, Move::Enter(entry), tries - 1);
-    let ending = tried.ending;
-    let Ending::Nothing = ending else {
+    if tried.ending != Ending::Nothing {
         return tried;
-    };
+    }
     let next = entries::past(entry, wanted);
     extensions_by_scan(file, work, task, place, wanted, next, tried.left)
 }
@@ -288,10 +288,9 @@ fn extensions(
             continue;
         }
         let tried = attempt(file, work, task, place, Move::Enter(entry), left - 1);
-        let ending = tried.ending;
-        let Ending::Nothing = ending else {
+        if tried.ending != Ending::Nothing {
             return tried;
-        };
+        }
         left = tried.left;
     }
     without(Ending::Nothing, left)
@@ -343,10 +342,9 @@ fn treat(file: &[u32], work: &mut [u32], task: Task, place: Place, left: u32) ->
     }
     let word = memory::word_at(file, work, tableau::literal_of(work, head));
     let reduced = reductions(file, work, task, place, entries::other_sign(word), left);
-    let ending = reduced.ending;
-    let Ending::Nothing = ending else {
+    if reduced.ending != Ending::Nothing {
         return reduced;
-    };
+    }
     further(file, work, task, place, word, reduced.left)
 }
 
@@ -392,24 +390,15 @@ fn run_noted(
 fn early(body: u32, budget: u32) -> u32
     ensures { result ≡ early_tries body budget }
 {
-    if budget < body / 8 {
-        return budget;
-    }
-    body / 8
+    budget.min(body / 8)
 }
 
 // Whether a search by scans, with so many tries, is the search: it was not given up, nor did it stop for tries that the budget has.
+#[tactic(auto, using(crate::proofs::Searching::Ended::settled_laws))]
 fn settled(searched: Searched, most: u32, budget: u32) -> bool
     ensures { result ≡ settled_by searched.ending searched.left most budget }
 {
-    let ending = searched.ending;
-    let Ending::Out = ending else {
-        return true;
-    };
-    if searched.left != 0 {
-        return false;
-    }
-    most == budget
+    searched.ending != Ending::Out || (searched.left == 0 && most == budget)
 }
 
 // A closed tableau for the question within the bound, if the budget lasts; its steps stand among the work words, and no variable is numbered yet. A short search of a long body is made by scans, and its literals are noted only for a longer one.
@@ -433,10 +422,8 @@ pub fn find(
     if !settled(first, most, budget) {
         return run_noted(file, work, question, conditions, budget);
     }
-    let ending = first.ending;
     Searched {
-        ending,
         left: first.left + (budget - most),
-        steps: first.steps,
+        ..first
     }
 }

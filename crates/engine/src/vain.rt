@@ -13,6 +13,7 @@ use unification::{memory, terms};
 use words::fields;
 
 // Whether a literal with a word stands on a branch, from a leaf up.
+#[tactic(auto, using(crate::proofs::Nowhere::Seen::walk_laws))]
 fn on_branch(file: &[u32], work: &[u32], head: u32, word: u32) -> bool
     requires { Good file.now work.now × Noted file.now work.now head × (head ≤ most_leaves) }
     ensures { result ≡ among word (words_up file.now work.now head) }
@@ -28,6 +29,7 @@ fn on_branch(file: &[u32], work: &[u32], head: u32, word: u32) -> bool
 }
 
 // Whether a leaf is open and no ancestor's literal fits it.
+#[tactic(auto, using(crate::proofs::Nowhere::Seen::stuck_laws))]
 fn stuck(file: &[u32], work: &[u32], head: u32) -> bool
     requires { Good file.now work.now × Noted file.now work.now head × (head ≤ most_leaves) }
     ensures { result ≡ stuck_at file.now work.now head }
@@ -45,10 +47,12 @@ fn stuck(file: &[u32], work: &[u32], head: u32) -> bool
 }
 
 // Where the first literal of a clause stands, the one entered left out.
+#[tactic(auto, using(crate::proofs::Nowhere::Seen::seek_laws))]
 fn first_other(file: &[u32], start: u32, entered: u32) -> u32
     requires { 0 < length (hanging_at file.now start entered) }
     ensures { result ≡ get_or (hanging_at file.now start entered) 0 0 }
 {
+    // No index that a range bounds: a literal is met before the clause ends.
     let mut offset: u32 = 1;
     while !tableau::hangs(
         file[fields::wide(start) + fields::wide(offset)],
@@ -61,6 +65,7 @@ fn first_other(file: &[u32], start: u32, entered: u32) -> u32
 }
 
 // Whether the leaf that comes first after an extension is closed by no reduction.
+#[tactic(auto, using(crate::proofs::Nowhere::Seen::end_laws))]
 pub fn dead_end(file: &[u32], work: &[u32], place: Place, start: u32, offset: u32) -> bool
     requires { Extensible file.now work.now place start offset }
     ensures { result ≡ dead_end file.now work.now place start offset }
@@ -74,6 +79,7 @@ pub fn dead_end(file: &[u32], work: &[u32], place: Place, start: u32, offset: u3
 }
 
 // The word of a literal's first argument, followed through what is bound; 0 where it has none.
+#[tactic(auto, using(crate::proofs::Nowhere::Seen::symbol_laws))]
 pub fn first_symbol(file: &[u32], work: &[u32], literal: u32) -> u32
     requires { Good file.now work.now × LiteralStands file.now work.now literal }
     ensures { Opening file.now work.now literal result }
@@ -85,6 +91,7 @@ pub fn first_symbol(file: &[u32], work: &[u32], literal: u32) -> u32
 }
 
 // Whether the first argument of the literal at a position begins with another function or constant.
+#[tactic(auto, using(crate::proofs::Nowhere::Seen::clash_laws))]
 pub fn clashes(file: &[u32], at: u32, symbol: u32) -> bool
     requires { kind_of symbol ≡ 1 → at + 1 < length file.now }
     ensures { result ≡ clashing symbol (get_or file.now (at + 1) 0) }
@@ -93,10 +100,7 @@ pub fn clashes(file: &[u32], at: u32, symbol: u32) -> bool
         return false;
     }
     let word = file[fields::wide(at) + 1];
-    if fields::kind(word) != 1 {
-        return false;
-    }
-    word != symbol
+    fields::kind(word) == 1 && word != symbol
 }
 
 // Whether the first arguments of two literals, followed through what is bound, begin with different functions or constants.
@@ -109,8 +113,5 @@ pub fn heads_differ(file: &[u32], work: &[u32], leaf: u32, literal: u32) -> bool
         return false;
     }
     let other = first_symbol(file, work, literal);
-    if fields::kind(other) != 1 {
-        return false;
-    }
-    other != symbol
+    fields::kind(other) == 1 && other != symbol
 }

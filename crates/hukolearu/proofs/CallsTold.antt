@@ -23,21 +23,19 @@ use Rattle.engine.specs.declared.Conditions.{Conditions}
 use Rattle.answers.specs.Writing.{words_of, disjuncts_kept, answer_held, Counted, Answered}
 use Rattle.answers.specs.Repeats.{disjuncts_held, Chose}
 use Rattle.engine.specs.Searching.{Ends}
-use Rattle.engine.specs.Checking.{RefusedAs, Decided}
+use Rattle.engine.specs.Checking.{status_for, RefusedAs, Decided}
 use Rattle.hukolearu.specs.Enums.{by_ending, by_verdict, by_room}
 use Rattle.hukolearu.specs.Telling.{Told, Passed, Answerable, Fits, Writable, held}
 use Rattle.hukolearu.specs.declared.Outcome.{Outcome}
-use Rattle.engine.specs.declared.check.Verdict.{Verdict}
-use Rattle.engine.specs.declared.check.Verdict.TheVariants.{Accepted, Refused}
+use Rattle.engine.specs.declared.check.Refusal as engine
+use Rattle.engine.specs.declared.check.Refused.{Refused}
 use Rattle.engine.specs.declared.search.Searched.{Searched}
 use Rattle.engine.specs.declared.search.Ending.{Ending}
 use Rattle.engine.specs.declared.search.Ending.TheVariants.{Found as AFound, Nothing, Out}
 use Rattle.answers.specs.declared.answer.Answer.{Answer}
-use Rattle.answers.specs.declared.answer.Room.{Room}
-use Rattle.answers.specs.declared.answer.Room.TheVariants.{Left, Over}
+use Rattle.std.specs.Prelude.{Option, Some, None, Result, Ok, Err}
 use Rattle.hukolearu.specs.Door.{Admitted, entry_of}
-use Rattle.hukolearu.specs.declared.door.Entry.{Entry}
-use Rattle.hukolearu.specs.declared.door.Entry.TheVariants.{Open as OpenDoor, Refused as RefusedAtDoor}
+use Rattle.hukolearu.specs.declared.door.Refusal.{Refusal}
 use Rattle.hukolearu.specs.declared.door.Inputs.{Inputs}
 use Rattle.hukolearu.proofs.DoorLaws.{question_stands, opened, shut, inside}
 
@@ -143,35 +141,35 @@ pub ruleset search_laws =
     (nothing_left, found_left, found_few, found_room, found_answerable, refuses, tells, nothing_given, out_given, found_given_lem)
 
 -- the checker: refused at a step, or accepted
-stopped_given : (f : List ℕ) (conditions : Conditions) (offered : List ℕ) {status place : ℕ} (room : ℕ) → RefusedAs f conditions offered status place
-    → check_given (table_in f) (length offered) room (check (setting_for f conditions) (read_steps (profile_of conditions.restarts) offered)) ≡ refused status place 0
+stopped_given : (f : List ℕ) (conditions : Conditions) (offered : List ℕ) {why : engine.Refusal} {place : ℕ} (room : ℕ) → RefusedAs f conditions offered why place
+    → check_given (table_in f) (length offered) room (check (setting_for f conditions) (read_steps (profile_of conditions.restarts) offered)) ≡ refused (status_for why) place 0
 unfolding check_given
-stopped_given f conditions offered room x = rw (x.stops, x.number)
+stopped_given f conditions offered room x = rw x.stops
 
-module _ (f m : List ℕ) (question : ℕ) (conditions : Conditions) (offered : List ℕ) {v : Verdict} (h : Decided f m question conditions offered v) where
-  as-decided : {w : Verdict} → v ≡ w → Decided f m question conditions offered w
-  as-decided e = subst (λ (x : Verdict). Decided f m question conditions offered x) e h
+module _ (f m : List ℕ) (question : ℕ) (conditions : Conditions) (offered : List ℕ) {v : Result ℕ Refused} (h : Decided f m question conditions offered v) where
+  as-decided : {w : Result ℕ Refused} → v ≡ w → Decided f m question conditions offered w
+  as-decided e = subst (λ (x : Result ℕ Refused). Decided f m question conditions offered x) e h
 
-  pub accepted_answerable : {m₀ : List ℕ} {steps : ℕ} → Passed f m₀ question conditions.bound → v ≡ Accepted steps → Answerable f m
+  pub accepted_answerable : {m₀ : List ℕ} {steps : ℕ} → Passed f m₀ question conditions.bound → v ≡ Ok steps → Answerable f m
   accepted_answerable p e = answerable f p.judged p.asked (as-decided e).ended
 
-  pub refused_given : {status place : ℕ} (room : ℕ) → v ≡ Refused status place
-      → check_given (table_in f) (length offered) room (check (setting_for f conditions) (read_steps (profile_of conditions.restarts) offered)) ≡ refused status place 0
-  refused_given room e = stopped_given f conditions offered room (as-decided e)
+  pub refused_given : {refusal : Refused} {status : ℕ} (room : ℕ) → v ≡ Err refusal → status ≡ status_for refusal.why
+      → check_given (table_in f) (length offered) room (check (setting_for f conditions) (read_steps (profile_of conditions.restarts) offered)) ≡ refused status refusal.place 0
+  refused_given room e s = rw s (stopped_given f conditions offered room (as-decided e))
 
-  pub accepted_given : {m₀ : List ℕ} {steps : ℕ} (room : ℕ) → Passed f m₀ question conditions.bound → v ≡ Accepted steps
+  pub accepted_given : {m₀ : List ℕ} {steps : ℕ} (room : ℕ) → Passed f m₀ question conditions.bound → v ≡ Ok steps
       → check_given (table_in f) (length offered) room (check (setting_for f conditions) (read_steps (profile_of conditions.restarts) offered)) ≡ held f m question steps [] 0 room
   unfolding check_given
   accepted_given {steps = steps} room p e =
       let x = as-decided e in
       rw (x.passes, ← x.count) (held_answered f p.judged p.asked x.ended steps [] 0 room)
 
-pub check_by_verdict : (f m : List ℕ) (question : ℕ) (conditions : Conditions) (offered : List ℕ) (v : Verdict) → Decided f m question conditions offered v
+pub check_by_verdict : (f m : List ℕ) (question : ℕ) (conditions : Conditions) (offered : List ℕ) (v : Result ℕ Refused) → Decided f m question conditions offered v
     → {m₀ : List ℕ} (room : ℕ) → Passed f m₀ question conditions.bound
     → check_given (table_in f) (length offered) room (check (setting_for f conditions) (read_steps (profile_of conditions.restarts) offered))
     ≡ by_verdict v (λ (steps : ℕ). held f m question steps [] 0 room)
-check_by_verdict f m question conditions offered (Accepted steps) h room p = accepted_given f m question conditions offered h room p refl
-check_by_verdict f m question conditions offered (Refused status place) h room p = refused_given f m question conditions offered h room refl
+check_by_verdict f m question conditions offered (Ok steps) h room p = accepted_given f m question conditions offered h room p refl
+check_by_verdict f m question conditions offered (Err refusal) h room p = refused_given f m question conditions offered h room refl refl
 
 pub ruleset check_laws = (accepted_answerable, refuses, tells, refused_given, accepted_given)
 
@@ -225,32 +223,32 @@ pub wrote_told : {f m a m' a' : List ℕ} {w : Answer} (proof tries : ℕ) → A
     (record { status = 0; place = 0; proof = proof; disjuncts = w.disjuncts; answer = w.words; tries = tries }) [] [] a a'
 wrote_told proof tries h = record { numbers = rw (h.words, h.disjuncts); steps = refl; words = h.answer }
 
-pub fits_over : {q : Room} {room : ℕ} (words needed : ℕ) → room ≡ room_of words → Counted room needed q → q ≡ Over → false ≡ leb needed (room_of words)
+pub fits_over : {q : Option ℕ} {room : ℕ} (words needed : ℕ) → room ≡ room_of words → Counted room needed q → q ≡ None → false ≡ leb needed (room_of words)
 fits_over {q} {room} words needed e counted o =
-    let over : room < needed = subst (λ (x : Room). Counted room needed x) o counted in
+    let over : room < needed = subst (λ (x : Option ℕ). Counted room needed x) o counted in
     sym (lt-leb needed (room_of words) (omega arith))
 
-pub fits_left : {q : Room} {room left : ℕ} (words needed : ℕ) → room ≡ room_of words → Counted room needed q → q ≡ Left left → true ≡ leb needed (room_of words)
+pub fits_left : {q : Option ℕ} {room left : ℕ} (words needed : ℕ) → room ≡ room_of words → Counted room needed q → q ≡ Some left → true ≡ leb needed (room_of words)
 fits_left {q} {room} {left} words needed e counted o =
-    let over : left + needed ≡ room = subst (λ (x : Room). Counted room needed x) o counted in
+    let over : left + needed ≡ room = subst (λ (x : Option ℕ). Counted room needed x) o counted in
     sym (le-leb needed (room_of words) (omega arith))
 
 -- as the count of what was chosen ended
-module _ {f m m' : List ℕ} {question : ℕ} (c : Chose f m m' question) (q : Room) {room : ℕ} (words : ℕ) (e : room ≡ room_of words) (counted : Counted room (length (answer_held f m')) q) where
+module _ {f m m' : List ℕ} {question : ℕ} (c : Chose f m m' question) (q : Option ℕ) {room : ℕ} (words : ℕ) (e : room ≡ room_of words) (counted : Counted room (length (answer_held f m')) q) where
   same_length : length (answer_held f m') ≡ length (words_of (disjuncts_held f m question))
   same_length = ap (λ (ds : List (List (Literal Variable))). length (words_of ds)) c.once
 
-  pub chosen_over : q ≡ Over → Fits f m m' question words false
+  pub chosen_over : q ≡ None → Fits f m m' question words false
   chosen_over o = record { chose = c; says = fits_over words _ e counted o ∙ ap (λ (n : ℕ). leb n (room_of words)) same_length }
 
-  pub chosen_left : {left : ℕ} → q ≡ Left left → Fits f m m' question words true
+  pub chosen_left : {left : ℕ} → q ≡ Some left → Fits f m m' question words true
   chosen_left o = record { chose = c; says = fits_left words _ e counted o ∙ ap (λ (n : ℕ). leb n (room_of words)) same_length }
 
-pub held_by_room : (f m m' : List ℕ) (question steps : ℕ) (proof : List ℕ) (tries words : ℕ) (q : Room) → Chose f m m' question
+pub held_by_room : (f m m' : List ℕ) (question steps : ℕ) (proof : List ℕ) (tries words : ℕ) (q : Option ℕ) → Chose f m m' question
     → Counted (room_of words) (length (answer_held f m')) q
     → held f m question steps proof tries words ≡ by_room q tries (granted steps proof (length (disjuncts_kept f m')) (answer_held f m') tries)
-held_by_room f m m' question steps proof tries words (Left left) c counted = held-fitting (chosen_left c (Left left) words refl counted refl) steps proof tries refl
-held_by_room f m m' question steps proof tries words Over c counted = held_over (chosen_over c Over words refl counted refl) steps proof tries refl
+held_by_room f m m' question steps proof tries words (Some left) c counted = held-fitting (chosen_left c (Some left) words refl counted refl) steps proof tries refl
+held_by_room f m m' question steps proof tries words None c counted = held_over (chosen_over c None words refl counted refl) steps proof tries refl
 
 pub ruleset fit_laws = (chosen_over, chosen_left)
 
@@ -262,22 +260,22 @@ pub all_passed : {f : List ℕ} {i : Inputs} (w : List ℕ) {question : ℕ} →
 all_passed w a asked enough = record { room = length-take-le work_words w (omega arith); judged = a.good_file; asked = asked; low = a.low_bound }
 
 -- what a call tells by what it learns at the door, by any profile's rules
-module _ (rules : Profile) (a : SearchAsked) {entry : Entry} (says : entry ≡ entry_of a.file (inputs_by rules a)) where
-  pub search_refused : {status place : ℕ} → entry ≡ RefusedAtDoor status place → search_by rules a ≡ refused status place 0
+module _ (rules : Profile) (a : SearchAsked) {entry : Result ℕ Refusal} (says : entry ≡ entry_of a.file (inputs_by rules a)) where
+  pub search_refused : {r : Refusal} → entry ≡ Err r → search_by rules a ≡ refused r.status r.place 0
   unfolding search_by
   search_refused e = shut a.file (inputs_by rules a) says e refused_by _
 
-  pub search_admitted : {question : ℕ} → entry ≡ OpenDoor question
+  pub search_admitted : {question : ℕ} → entry ≡ Ok question
       → search_by rules a ≡ search_given (over rules (table_in a.file) a.bound) a.answer_room (search_for (over rules (table_in a.file) a.bound) a.budget)
   unfolding search_by
   search_admitted e = inside (opened a.file (inputs_by rules a) says e) refused_by _
 
-module _ (rules : Profile) (a : CheckAsked) {entry : Entry} (says : entry ≡ entry_of a.file (check_inputs a)) where
-  pub check_refused : {status place : ℕ} → entry ≡ RefusedAtDoor status place → check_by rules a ≡ refused status place 0
+module _ (rules : Profile) (a : CheckAsked) {entry : Result ℕ Refusal} (says : entry ≡ entry_of a.file (check_inputs a)) where
+  pub check_refused : {r : Refusal} → entry ≡ Err r → check_by rules a ≡ refused r.status r.place 0
   unfolding check_by
   check_refused e = shut a.file (check_inputs a) says e refused_by _
 
-  pub check_admitted : {question : ℕ} → entry ≡ OpenDoor question
+  pub check_admitted : {question : ℕ} → entry ≡ Ok question
       → check_by rules a
       ≡ check_given (table_in a.file) (length a.offered) a.answer_room (check (over rules (table_in a.file) a.bound) (read_steps rules a.offered))
   unfolding check_by

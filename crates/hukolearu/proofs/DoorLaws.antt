@@ -18,9 +18,9 @@ use Rattle.table.proofs.Accepted.{accepted}
 use Rattle.table.proofs.AcceptedTable.{body_readable, question_start}
 use Rattle.unification.specs.State.{own_words, ClauseAt}
 use Rattle.engine.proofs.Literals.Places.{question_placed}
-use Rattle.hukolearu.specs.Door.{Fault, Check, refused_if, first_fault, checks, behind, Admitted, entry_by, entry_of, work_after, least_work}
-use Rattle.hukolearu.specs.declared.door.Entry.{Entry}
-use Rattle.hukolearu.specs.declared.door.Entry.TheVariants.{Open, Refused}
+use Rattle.hukolearu.specs.Door.{Fault, Check, refused_if, first_fault, checks, behind, Admitted, placeless, entry_by, entry_of, work_after, least_work}
+use Rattle.std.specs.Prelude.{Result, Ok, Err}
+use Rattle.hukolearu.specs.declared.door.Refusal.{Refusal}
 use Rattle.hukolearu.specs.declared.door.Inputs.{Inputs}
 
 -- the question of an accepted file
@@ -37,31 +37,31 @@ small_question f {j} e z =
 
 -- check by check
 module _ (f : List ℕ) (i : Inputs) where
-  pub little_work : i.work < least_work → Refused 1 0 ≡ entry_of f i
+  pub little_work : i.work < least_work → Err (placeless 1) ≡ entry_of f i
   unfolding first_fault
   little_work w = rw (lt-ltb i.work least_work w)
 
   module _ (work : least_work ≤ i.work) where
-    pub little_proof : i.proof < i.least → Refused 2 0 ≡ entry_of f i
+    pub little_proof : i.proof < i.least → Err (placeless 2) ≡ entry_of f i
     unfolding first_fault
     little_proof p = rw (le-ltb i.work least_work work, lt-ltb i.proof i.least p)
 
     module _ (proof : i.least ≤ i.proof) where
-      pub high_bound : 32 < i.bound → Refused 3 0 ≡ entry_of f i
+      pub high_bound : 32 < i.bound → Err (placeless 3) ≡ entry_of f i
       unfolding first_fault
       high_bound h = rw (le-ltb i.work least_work work, le-ltb i.proof i.least proof, lt-ltb 32 i.bound h)
 
       module _ (low : i.bound ≤ 32) {j : Judgement} (judged : j ≡ judge f) where
-        pub bad_file : (j.status ≡ 0 → ⊥) → Refused j.status j.place ≡ entry_of f i
+        pub bad_file : (j.status ≡ 0 → ⊥) → Err (record { status = j.status; place = j.place }) ≡ entry_of f i
         unfolding first_fault
         bad_file n = rw (le-ltb i.work least_work work, le-ltb i.proof i.least proof, le-ltb 32 i.bound low, ← judged, ne_eqb j.status 0 n)
 
-        pub good_file : j.status ≡ 0 → Open j.question ≡ entry_of f i
+        pub good_file : j.status ≡ 0 → Ok j.question ≡ entry_of f i
         unfolding first_fault
         good_file z =
             let same : (judge f).status ≡ 0 = cc in
             rw (le-ltb i.work least_work work, le-ltb i.proof i.least proof, le-ltb 32 i.bound low, eq-eqb (judge f).status 0 same)
-            (ap (λ (k : Judgement). Open k.question) judged)
+            (ap (λ (k : Judgement). Ok k.question) judged)
 
 pub ruleset enter_laws = (little_work, little_proof, high_bound, bad_file, good_file)
 
@@ -117,31 +117,31 @@ module _ (f : List ℕ) (i : Inputs) where
       }
 
 -- what a call learns from the door
-open_by : (f : List ℕ) (x : Option Fault) {q : ℕ} → entry_by f x ≡ Open q → x ≡ none
+open_by : (f : List ℕ) (x : Option Fault) {q : ℕ} → entry_by f x ≡ Ok q → x ≡ none
 open_by f none e = refl
 open_by f (some fault) e = let z : ◌≡◌ {A = ℕ} 0 1 = cc in absurd (omega arith)
 
-asked_by : (f : List ℕ) (x : Option Fault) {q : ℕ} → entry_by f x ≡ Open q → q ≡ (judge f).question
+asked_by : (f : List ℕ) (x : Option Fault) {q : ℕ} → entry_by f x ≡ Ok q → q ≡ (judge f).question
 asked_by f none e = cc
 asked_by f (some fault) e = let z : ◌≡◌ {A = ℕ} 0 1 = cc in absurd (omega arith)
 
-fault_by : (f : List ℕ) (x : Option Fault) {status place : ℕ} → entry_by f x ≡ Refused status place → x ≡ some (record { status = status; place = place })
+fault_by : (f : List ℕ) (x : Option Fault) {r : Refusal} → entry_by f x ≡ Err r → x ≡ some (record { status = r.status; place = r.place })
 fault_by f none e = let z : ◌≡◌ {A = ℕ} 0 1 = cc in absurd (omega arith)
-fault_by f (some fault) {status} {place} e =
-    let s : fault.status ≡ status = cc in let p : fault.place ≡ place = cc in rw (← s, ← p)
+fault_by f (some fault) {r} e =
+    let same : record { status = fault.status; place = fault.place } ≡ r = cc in rw (← same)
 
-module _ (f : List ℕ) (i : Inputs) {entry : Entry} (says : entry ≡ entry_of f i) where
-  pub opened : {question : ℕ} → entry ≡ Open question → Admitted f i
+module _ (f : List ℕ) (i : Inputs) {entry : Result ℕ Refusal} (says : entry ≡ entry_of f i) where
+  pub opened : {question : ℕ} → entry ≡ Ok question → Admitted f i
   opened e = passed f i (open_by f (first_fault (checks f i)) (sym says ∙ e))
 
-  pub at_question : {question : ℕ} → entry ≡ Open question → question ≡ (judge f).question
+  pub at_question : {question : ℕ} → entry ≡ Ok question → question ≡ (judge f).question
   at_question e = asked_by f (first_fault (checks f i)) (sym says ∙ e)
 
-  pub fault_met : {status place : ℕ} → entry ≡ Refused status place → first_fault (checks f i) ≡ some (record { status = status; place = place })
+  pub fault_met : {r : Refusal} → entry ≡ Err r → first_fault (checks f i) ≡ some (record { status = r.status; place = r.place })
   fault_met e = fault_by f (first_fault (checks f i)) (sym says ∙ e)
 
-  pub shut : {A : Type 0} {status place : ℕ} → entry ≡ Refused status place → (refuse : Fault → A) (given : A)
-      → behind (first_fault (checks f i)) refuse given ≡ refuse (record { status = status; place = place })
+  pub shut : {A : Type 0} {r : Refusal} → entry ≡ Err r → (refuse : Fault → A) (given : A)
+      → behind (first_fault (checks f i)) refuse given ≡ refuse (record { status = r.status; place = r.place })
   unfolding behind
   shut e refuse given = rw (fault_met e)
 

@@ -1,11 +1,10 @@
 -- The door that every call passes through (document 01, "What comes back"): the checks of input in their order, the first that refuses,
 -- and the work words when the call is over.
-use Rattle.std.specs.Prelude.{Bool, cond, List, [], ◌∷◌, ◌++◌, ◌≡◌, ℕ, ◌≤◌, eqb, ltb, length, drop, replicate}
+use Rattle.std.specs.Prelude.{Bool, cond, List, [], ◌∷◌, ◌++◌, Result, Ok, Err, ◌≡◌, ℕ, ◌≤◌, eqb, ltb, length, drop, replicate}
 use Rattle.std.proofs.Math.Option.{Option, none, some}
 use Rattle.table.specs.File.{judge}
 use Rattle.hukolearu.specs.Status as Status
-use Rattle.hukolearu.specs.declared.door.Entry.{Entry}
-use Rattle.hukolearu.specs.declared.door.Entry.TheVariants.{Open, Refused}
+use Rattle.hukolearu.specs.declared.door.Refusal.{Refusal}
 use Rattle.hukolearu.specs.declared.door.Inputs.{Inputs}
 
 -- a refusal: the status, and the place
@@ -63,12 +62,16 @@ pub record Admitted (file : List ℕ) (inputs : Inputs) : Type 0 where
   pub low_bound : inputs.bound ≤ 32
   pub good_file : (judge file).status ≡ 0
 
--- the code's own enum: the first refusal, or where the question begins
-abbrev pub entry_by : List ℕ → Option Fault → Entry
-entry_by file none = Open (judge file).question
-entry_by file (some fault) = Refused fault.status fault.place
+-- the code's own refusal, where no place is told
+abbrev pub placeless : ℕ → Refusal
+placeless status = record { status = status; place = 0 }
 
-abbrev pub entry_of : List ℕ → Inputs → Entry
+-- where the question begins, or the first refusal
+abbrev pub entry_by : List ℕ → Option Fault → Result ℕ Refusal
+entry_by file none = Ok (judge file).question
+entry_by file (some fault) = Err (record { status = fault.status; place = fault.place })
+
+abbrev pub entry_of : List ℕ → Inputs → Result ℕ Refusal
 entry_of file inputs = entry_by file (first_fault (checks file inputs))
 
 -- status 1 leaves all buffers unchanged; all others leave the first 16,384 work words zero and the rest unchanged

@@ -1,10 +1,8 @@
 -- The engine's own enums as document 01's numbers and values: what a call gives, for each case of an enum that is an answer.
 -- The words of a step are `words/Steps.stepWord`, the status of a step judged is `engine/Checking.statusFor`, the door's entry is `Door.entryBy`.
-use Rattle.std.specs.Prelude.{ℕ, ◌-◌}
-use Rattle.answers.specs.declared.answer.Room.{Room}
-use Rattle.answers.specs.declared.answer.Room.TheVariants.{Left, Over}
-use Rattle.engine.specs.declared.check.Verdict.{Verdict}
-use Rattle.engine.specs.declared.check.Verdict.TheVariants.{Accepted, Refused}
+use Rattle.std.specs.Prelude.{Option, Some, None, Result, Ok, Err, ℕ, ◌-◌}
+use Rattle.engine.specs.Checking.{status_for}
+use Rattle.engine.specs.declared.check.Refused.{Refused}
 use Rattle.engine.specs.declared.search.Ending.{Ending}
 use Rattle.engine.specs.declared.search.Ending.TheVariants.{Found, Nothing, Out}
 use Rattle.hukolearu.specs.Status as Status
@@ -17,11 +15,11 @@ by_ending Nothing budget left found = refused Status.none_found 0 (budget - left
 by_ending Out budget left found = refused Status.ran_out 0 budget
 
 -- what the checker decided: so many steps accepted; 12 to 15 or 20 with the place
-abbrev pub by_verdict : Verdict → (ℕ → Given) → Given
-by_verdict (Accepted steps) accepted = accepted steps
-by_verdict (Refused status place) accepted = refused status place 0
+abbrev pub by_verdict : Result ℕ Refused → (ℕ → Given) → Given
+by_verdict (Ok steps) accepted = accepted steps
+by_verdict (Err refusal) accepted = refused (status_for refusal.why) refusal.place 0
 
 -- the room for an answer, with the search's tries: it fits; 16, answer longer than its buffer
-abbrev pub by_room : Room → ℕ → Given → Given
-by_room (Left words) tries fitting = fitting
-by_room Over tries fitting = refused Status.answer_too_long 0 tries
+abbrev pub by_room : Option ℕ → ℕ → Given → Given
+by_room (Some words) tries fitting = fitting
+by_room None tries fitting = refused Status.answer_too_long 0 tries

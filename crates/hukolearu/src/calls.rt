@@ -11,11 +11,9 @@ ghost use Rattle.hukolearu.specs.Door.{work_after};
 ghost use Rattle.hukolearu.specs.Calls.{refused, granted, room_of, search_given, check_given, search_by, search_call, search_with, check_by, check_call, check_with, at_front};
 ghost use Rattle.hukolearu.specs.Telling.{Told, Passed, Answerable, Fits, Writable, held};
 
-use crate::door::{Entry, Inputs};
+use crate::door::Inputs;
 use crate::{Outcome, door, status};
-use answers::answer::Room;
 use answers::{answer, once};
-use engine::check::Verdict;
 use engine::search::Ending;
 use engine::{Conditions, check, search};
 use unification::memory;
@@ -52,10 +50,7 @@ pub fn refused(status: u32, place: u32, tries: u32) -> Outcome
 fn room_of(words: usize) -> usize
     ensures { result ≡ room_of words }
 {
-    if words < 4294967295 {
-        return words;
-    }
-    4294967295
+    words.min(4294967295)
 }
 
 // Which copies of the question the answer keeps, and whether it fits.
@@ -64,11 +59,7 @@ fn fits(file: &[u32], work: &mut [u32], question: u32, words: usize) -> bool
     ensures { Fits file.now work.old work.new question words result }
 {
     once::choose(file, work, question);
-    let room = answer::room_after(file, work, room_of(words));
-    let Room::Left(_) = room else {
-        return false;
-    };
-    true
+    answer::room_after(file, work, room_of(words)).is_some()
 }
 
 // The answer, which fits, is written.
@@ -92,11 +83,7 @@ fn copy_steps(work: &[u32], proof: &mut [u32], count: u32)
     ensures { proof.new ≡ at_front (take count (drop step_places work.now)) proof.old }
 {
     let n = fields::wide(count);
-    let mut i = 0;
-    while i < n {
-        proof[i] = work[memory::STEPS + i];
-        i += 1;
-    }
+    proof[..n].copy_from_slice(&work[memory::STEPS..memory::STEPS + n]);
 }
 
 // The steps that a search found and their answer, if it fits.
@@ -184,13 +171,12 @@ pub fn search_by(
         proof: proof.len(),
         least,
     };
-    let entry = door::enter(file, inputs);
-    match entry {
-        Entry::Refused(status, place) => {
+    match door::enter(file, inputs) {
+        Err(refusal) => {
             door::leave(work);
-            refused(status, place, 0)
+            refused(refusal.status, refusal.place, 0)
         }
-        Entry::Open(question) => {
+        Ok(question) => {
             let outcome = searched_by(
                 file,
                 question,
@@ -255,10 +241,9 @@ pub fn checked(
     requires { Passed file.now work.old question conditions.bound }
     ensures { Told (check_given (table_in file.now) (length offered.now) (length answer.old) (check (setting_for file.now conditions) (read_steps (profile_of conditions.restarts) offered.now))) result [] [] answer.old answer.new }
 {
-    let verdict = check::run(file, work, question, conditions, offered);
-    match verdict {
-        Verdict::Refused(status, place) => refused(status, place, 0),
-        Verdict::Accepted(steps) => accepted(file, question, steps, answer, work),
+    match check::run(file, work, question, conditions, offered) {
+        Err(refusal) => refused(check::status(refusal.why), refusal.place, 0),
+        Ok(steps) => accepted(file, question, steps, answer, work),
     }
 }
 
@@ -280,13 +265,12 @@ pub fn check_by(
         proof: 0,
         least: 0,
     };
-    let entry = door::enter(file, inputs);
-    match entry {
-        Entry::Refused(status, place) => {
+    match door::enter(file, inputs) {
+        Err(refusal) => {
             door::leave(work);
-            refused(status, place, 0)
+            refused(refusal.status, refusal.place, 0)
         }
-        Entry::Open(question) => {
+        Ok(question) => {
             let outcome = checked(
                 file,
                 question,

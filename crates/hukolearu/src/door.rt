@@ -1,6 +1,6 @@
 // The door that every call passes through: the checks of input in their order, and the work words zero at the end.
 ghost use Rattle.std.specs.Prelude.{◌≡◌};
-ghost use Rattle.hukolearu.specs.Door.{entry_of, work_after};
+ghost use Rattle.hukolearu.specs.Door.{placeless, entry_of, work_after};
 
 use crate::status;
 use unification::memory;
@@ -16,31 +16,40 @@ pub struct Inputs {
     pub least: usize,
 }
 
+// Document 01's number of the first check that is not passed, and the place.
 #[derive(Clone, Copy)]
-pub enum Entry {
-    // Where the question begins.
-    Open(u32),
-    // The status, and the place.
-    Refused(u32, u32),
+pub struct Refusal {
+    pub status: u32,
+    pub place: u32,
 }
 
-pub fn enter(file: &[u32], inputs: Inputs) -> Entry
+fn placeless(status: u32) -> Refusal
+    ensures { result ≡ placeless status }
+{
+    Refusal { status, place: 0 }
+}
+
+// Where the question begins.
+pub fn enter(file: &[u32], inputs: Inputs) -> Result<u32, Refusal>
     ensures { result ≡ entry_of file.now inputs }
 {
     if inputs.work < memory::ROOM {
-        return Entry::Refused(status::WORK_TOO_SHORT, 0);
+        return Err(placeless(status::WORK_TOO_SHORT));
     }
     if inputs.proof < inputs.least {
-        return Entry::Refused(status::PROOF_TOO_SHORT, 0);
+        return Err(placeless(status::PROOF_TOO_SHORT));
     }
     if HIGHEST_BOUND < inputs.bound {
-        return Entry::Refused(status::BOUND_TOO_HIGH, 0);
+        return Err(placeless(status::BOUND_TOO_HIGH));
     }
     let judged = table::file::judge(file);
     if judged.status != 0 {
-        return Entry::Refused(judged.status, judged.place);
+        return Err(Refusal {
+            status: judged.status,
+            place: judged.place,
+        });
     }
-    Entry::Open(judged.question as u32)
+    Ok(judged.question as u32)
 }
 
 // The first work words, so many as a call works on, are zero; too few are left as they are.

@@ -2,12 +2,13 @@
 use mathlib.Core.Path.{◌≡◌, refl, sym, ap, ◌∙◌}
 use mathlib.Core.List.{List, ◌++◌}
 use mathlib.Core.Option.{some}
-use Prim.Native.Nat.{ℕ, ◌+◌, ◌*◌, ◌-◌, ◌/◌, ◌%◌, ◌≤◌, ◌<◌}
+use Prim.Native.Nat.{ℕ, zero, suc, ◌+◌, ◌*◌, ◌-◌, ◌/◌, ◌%◌, ◌≤◌, ◌<◌}
 use native.Mathlib.Omega.{arith}
 use lib.Dec.{eqb}
 use lib.ListN.{length, take, drop, get_or, set, get_elem?, replicate, length-set, drop_of_length-le}
 use lib.Seq.{get_or-set_same, get_or-set_other, get_or-take}
 use borrow.Author.Tests.{eqb-true, eqb-false}
+use Rattle.std.specs.Prelude.{Some, None}
 use Rattle.words.specs.Fields.{number_of}
 use Rattle.words.proofs.Packed.{bits_small}
 use Rattle.rules.proofs.Unify.Tests.{decide}
@@ -15,7 +16,7 @@ use Rattle.unification.specs.Places.{work_words}
 use Rattle.index.specs.Places.{noted_place, first_places, head_places, most_noted, note_places, key_count}
 use Rattle.index.specs.declared.entries.Scan.{Scan}
 use Rattle.index.specs.Scanning.{begun}
-use Rattle.index.specs.Noting.{keys_in, scans_in, count_at, note_at, links_at, first_at, end_at, clause_at, head_at, first_from, last_from, end_from, Fits, Indexed, Linked, word_begun, word_joined}
+use Rattle.index.specs.Noting.{keys_in, scans_in, count_at, note_at, links_at, first_at, end_at, clause_at, head_at, first_from, last_from, numbered, end_from, Fits, Indexed, Linked, word_begun, word_joined}
 use Rattle.index.proofs.Scans.{body_length}
 use Rattle.index.proofs.Listed.{first_none, FirstAt, first_found, EndAt, end_found, no_end, last_is, last_on, first_is, first_on, end_is, end_on_key, end_on, LastAt, last_found, last_alone}
 use Rattle.index.proofs.Scanned.{elem_some, elem_inside, same_count, Scanned, scan_at}
@@ -352,24 +353,38 @@ module _ {f m : List ℕ} {body i : ℕ} (g : Linked f body m (i + 1)) (h : i < 
         remains : (x : ℕ) → x < 4096 → x % 4096 ≡ x
         remains x l = omega arith
 
+-- a literal's number, read from such a number and one
+pub numbered_of : (n k : ℕ) → n ≡ k → (n ≡ 0 → ⊥) → Some (n - 1) ≡ numbered k
+numbered_of zero k e h = absurd (h refl)
+numbered_of (suc n) k e h = let z : suc n - 1 ≡ n = omega arith in rw z (ap numbered e)
+
+pub numbered_by_none : (n : ℕ) → 0 ≡ n → None ≡ numbered n
+numbered_by_none n e = ap numbered e
+
+pub numbered_none : (n : ℕ) → None ≡ numbered n → n ≡ 0
+numbered_none zero e = refl
+numbered_none (suc n) e = cc
+
+numbered_some : (n k : ℕ) → Some k ≡ numbered n → n ≡ k + 1
+numbered_some zero k e = cc
+numbered_some (suc n) k e = let same : k ≡ n = cc in omega arith
+
 -- a literal linked, with premises as the code has them
-module _ {f m : List ℕ} {body i : ℕ} (g : Linked f body m (i + 1)) (h : i < length (keys_in f body)) {word last : ℕ} (ew : word ≡ get_or f (note_at m i % 16384) 0) (el : last ≡ last_from word (i + 1) (drop (i + 1) (keys_in f body))) where
+module _ {f m : List ℕ} {body i : ℕ} (g : Linked f body m (i + 1)) (h : i < length (keys_in f body)) {word : ℕ} (ew : word ≡ get_or f (note_at m i % 16384) 0) where
   is-own : word ≡ get_or (keys_in f body) i 0
   is-own = ew ∙ literal_word_lem g.indexed i h
 
-  pub link_begun : last ≡ 0 → {m' : List ℕ} → m' ≡ word_begun m i (number_of word) → Linked f body m' i
-  link_begun z e = rw (e, is-own) (linked_begun g h (rw is-own at (sym el ∙ z)))
+  pub link_begun : None ≡ numbered (last_from word (i + 1) (drop (i + 1) (keys_in f body))) → {m' : List ℕ} → m' ≡ word_begun m i (number_of word) → Linked f body m' i
+  link_begun z e = rw (e, is-own) (linked_begun g h (rw is-own at (numbered_none _ z)))
 
-  module _ (n : last ≡ 0 → ⊥) where
-    last_there : LastAt (keys_in f body) (get_or (keys_in f body) i 0) (i + 1) (last - 1)
-    last_there =
-        let one : last_from word (i + 1) (drop (i + 1) (keys_in f body)) ≡ last - 1 + 1 = sym el ∙ omega arith in
-        last_found (keys_in f body) (omega arith) (rw is-own at one)
+  module _ {last : ℕ} (el : Some last ≡ numbered (last_from word (i + 1) (drop (i + 1) (keys_in f body)))) where
+    last_there : LastAt (keys_in f body) (get_or (keys_in f body) i 0) (i + 1) last
+    last_there = last_found (keys_in f body) (omega arith) (rw is-own at (numbered_some _ _ el))
 
-    pub link_last : (length m ≡ work_words) × (i < last - 1) × (last - 1 < most_noted)
-    link_last = (g.indexed.size, omega (arith, last_there.from), literal_low g.indexed (last - 1) last_there.inside)
+    pub link_last : (length m ≡ work_words) × (i < last) × (last < most_noted)
+    link_last = (g.indexed.size, omega (arith, last_there.from), literal_low g.indexed last last_there.inside)
 
-    pub link_joined : {m' : List ℕ} → m' ≡ word_joined m i (number_of word) (last - 1) → Linked f body m' i
+    pub link_joined : {m' : List ℕ} → m' ≡ word_joined m i (number_of word) last → Linked f body m' i
     link_joined e = rw (e, is-own) (linked_joined g h last_there)
 
 -- no literal is linked yet
@@ -398,36 +413,26 @@ module _ (m : List ℕ) {m' : List ℕ} (size : length m ≡ work_words) (e : m'
       }
 
 -- the first literal with a word, by the last
-module _ {f m : List ℕ} {body : ℕ} (g : Linked f body m 0) (word : ℕ) {last : ℕ} (el : last ≡ last_from word 0 (drop 0 (keys_in f body))) where
-  pub first_missing : last ≡ 0 → 0 ≡ first_from word 0 (keys_in f body)
-  first_missing z = sym (first_none word (keys_in f body) 0 (sym el ∙ z))
+module _ {f m : List ℕ} {body : ℕ} (g : Linked f body m 0) (word : ℕ) where
+  pub first_missing : None ≡ numbered (last_from word 0 (drop 0 (keys_in f body))) → 0 ≡ first_from word 0 (keys_in f body)
+  first_missing z = sym (first_none word (keys_in f body) 0 (numbered_none _ z))
 
-  module _ (n : last ≡ 0 → ⊥) where
-    last-is-there : LastAt (keys_in f body) word 0 (last - 1)
-    last-is-there = last_found (keys_in f body) (omega arith) (sym el ∙ omega arith)
+  module _ {last : ℕ} (el : Some last ≡ numbered (last_from word 0 (drop 0 (keys_in f body)))) where
+    last-is-there : LastAt (keys_in f body) word 0 last
+    last-is-there = last_found (keys_in f body) (omega arith) (numbered_some _ _ el)
 
-    pub first_low : (length m ≡ work_words) × (last - 1 < most_noted)
-    first_low = (g.indexed.size, literal_low g.indexed (last - 1) last-is-there.inside)
+    pub first_low : (length m ≡ work_words) × (last < most_noted)
+    first_low = (g.indexed.size, literal_low g.indexed last last-is-there.inside)
 
-    pub first_by_last : {q : ℕ} → q ≡ last - 1 → get_or m (note_places + 3 * q + 1) 0 / 4096 ≡ first_from word 0 (keys_in f body)
+    pub first_by_last : {q : ℕ} → q ≡ last → get_or m (note_places + 3 * q + 1) 0 / 4096 ≡ first_from word 0 (keys_in f body)
     first_by_last eq =
         rw eq
-        (ap (λ (x : ℕ). x / 4096) (g.firsts (last - 1) (omega arith) last-is-there.inside (rw last-is-there.here last-is-there.last))
-        ∙ divided (first_from (get_or (keys_in f body) (last - 1) 0) 0 (keys_in f body))
+        (ap (λ (x : ℕ). x / 4096) (g.firsts last (omega arith) last-is-there.inside (rw last-is-there.here last-is-there.last))
+        ∙ divided (first_from (get_or (keys_in f body) last 0) 0 (keys_in f body))
         ∙ ap (λ (w : ℕ). first_from w 0 (keys_in f body)) last-is-there.here)
       where
         divided : (x : ℕ) → 4096 * x / 4096 ≡ x
         divided x = omega arith
-
--- the links so far, where one literal more is to be linked, and where none is left
-module _ {f m : List ℕ} {body left : ℕ} (g : Linked f body m left) where
-  pub link_step : (left ≡ 0 → ⊥) → Linked f body m (left - 1 + 1) × (left - 1 < length (keys_in f body))
-  link_step n =
-      let same : left - 1 + 1 ≡ left = omega arith in
-      (rw same g, omega (arith, g.within))
-
-  pub link_done : left ≡ 0 → Linked f body m 0
-  link_done z = rw z at g
 
 -- notes and links are kept where their words are
 module _ {f m m' : List ℕ} {body : ℕ} (size : length m' ≡ work_words) (kept : (i : ℕ) → noted_place ≤ i → i < work_words → get_or m' i 0 ≡ get_or m i 0) where

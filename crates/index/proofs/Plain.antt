@@ -24,9 +24,9 @@ module _ {f : List ℕ} {body from : ℕ} (fits : body ≤ length f) where
   passing_begin h = record { low = h; same = refl }
 
   module _ (s : Scan) {at : ℕ} (passing : Passing f body from at) where
-    pub passing_end : body ≤ at → {r : Scan} → r ≡ moved_to s at → r ≡ moved_to s (plain_from from (drop from (take body f)))
+    pub passing_end : body ≤ at → {r : Scan} → r ≡ moved_to s body → r ≡ moved_to s (plain_from from (drop from (take body f)))
     unfolding plain_from
-    passing_end n e = e ∙ ap (moved_to s) (sym (passing.same ∙ rw (body_end f body fits {at = at} n)))
+    passing_end n e = let z : body ≡ at = omega (arith, passing.low) in (rw z at e) ∙ ap (moved_to s) (sym (passing.same ∙ rw (body_end f body fits {at = at} n)))
 
     module _ (h : at < body) where
       pub passing_reads : {q : ℕ} → q ≡ at → q < length f

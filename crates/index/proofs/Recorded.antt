@@ -13,8 +13,7 @@ use Rattle.rules.proofs.Unify.Tests.{decide}
 use Rattle.unification.specs.Places.{work_words}
 use Rattle.index.specs.Places.{noted_place, first_places, most_noted, note_places}
 use Rattle.index.specs.declared.entries.Scan.{Scan}
-use Rattle.index.specs.declared.entries.Candidate.{Candidate}
-use Rattle.index.specs.declared.entries.Candidate.TheVariants.{Done}
+use Rattle.std.specs.Prelude.{None}
 use Rattle.index.specs.Scanning.{begun, past_word, Standing, entry_from, EntryAt}
 use Rattle.index.specs.Noting.{scans_from, keys_in, scans_in, count_at, note_at, clause_at, Fits, Few, packed, noted, unpacked, Unpacks, Indexed}
 use Rattle.index.proofs.Scans.{past_clause, past_literal, past_other, past_at, standing_begin, standing_past, standing_most, body_word, body_inside, body_from, body_end}
@@ -299,7 +298,7 @@ module _ {f m : List ℕ} {body : ℕ} (g : Indexed f body m) (i : ℕ) {s : Sca
 
 -- the literal of a number in the clause of a number
 module _ {f m : List ℕ} {body : ℕ} (g : Indexed f body m) (clause literal : ℕ) where
-  missing : ((i : ℕ) (s : Scan) → get_elem? (scans_in f body) i ≡ some s → s.clauses ≡ clause + 1 → clause_at m clause + literal ≡ i → ⊥) → entry_from clause literal begun (take body f) ≡ Done
+  missing : ((i : ℕ) (s : Scan) → get_elem? (scans_in f body) i ≡ some s → s.clauses ≡ clause + 1 → clause_at m clause + literal ≡ i → ⊥) → entry_from clause literal begun (take body f) ≡ None
   missing n =
       none_entered clause literal (take body f) begun
       (λ i s e c l.
@@ -308,13 +307,13 @@ module _ {f m : List ℕ} {body : ℕ} (g : Indexed f body m) (clause literal : 
       n i s e c (omega arith))
 
   module _ {q : ℕ} (eq : q ≡ clause) where
-    pub entry_beyond : count_at m ≤ get_or m (first_places + q) 0 → entry_from clause literal begun (take body f) ≡ Done
+    pub entry_beyond : count_at m ≤ get_or m (first_places + q) 0 → entry_from clause literal begun (take body f) ≡ None
     entry_beyond h =
         let first : count_at m ≤ clause_at m clause = rw eq at h in
         missing (λ i s e c n. omega (arith, elem_inside (scans_in f body) i e, g.count))
 
     module _ (h : get_or m (first_places + q) 0 < count_at m) where
-      pub entry_over : count_at m - get_or m (first_places + q) 0 ≤ literal → entry_from clause literal begun (take body f) ≡ Done
+      pub entry_over : count_at m - get_or m (first_places + q) 0 ≤ literal → entry_from clause literal begun (take body f) ≡ None
       entry_over k =
           let first : count_at m - clause_at m clause ≤ literal = rw eq at k in
           missing (λ i s e c n. omega (arith, elem_inside (scans_in f body) i e, g.count))
@@ -336,7 +335,7 @@ module _ {f m : List ℕ} {body : ℕ} (g : Indexed f body m) (clause literal : 
           numbered : clause_at m (scan.clauses - 1) + scan.literals ≡ number
           numbered = rw is (g.number number found.0 found.1)
 
-          pub entry_other : (scan.clauses ≡ clause + 1 → ⊥) → entry_from clause literal begun (take body f) ≡ Done
+          pub entry_other : (scan.clauses ≡ clause + 1 → ⊥) → entry_from clause literal begun (take body f) ≡ None
           entry_other n =
               missing (λ i s e c j.
               let same : number ≡ i = rw eq j in

@@ -14,7 +14,7 @@ use Rattle.words.specs.Fields.{kind_of}
 use Rattle.rules.proofs.Lists.{none_some}
 use Rattle.rules.proofs.Unify.Tests.{decide}
 use Rattle.index.specs.declared.entries.Scan.{Scan}
-use Rattle.index.specs.declared.entries.Candidate.TheVariants.{Done}
+use Rattle.std.specs.Prelude.{None}
 use Rattle.index.specs.Scanning.{begun, past_word, Standing, is_entry, entry_from}
 use Rattle.index.specs.Noting.{keys_of, scans_from}
 use Rattle.index.proofs.Scans.{past_clause, past_literal, past_other, past_at, standing_begin, standing_past}
@@ -178,7 +178,7 @@ module _ (whole : List ℕ) where
 
 -- where no literal has these numbers
 pub none_entered : (clause literal : ℕ) (ws : List ℕ) (from : Scan) → ((i : ℕ) (s : Scan) → get_elem? (scans_from from ws) i ≡ some s → s.clauses ≡ clause + 1 → s.literals ≡ literal → ⊥)
-    → entry_from clause literal from ws ≡ Done
+    → entry_from clause literal from ws ≡ None
 unfolding entry_from scans_from is_entry
 none_entered clause literal [] from n = refl
 none_entered clause literal (w ∷ ws) from n =

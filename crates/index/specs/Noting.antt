@@ -1,5 +1,5 @@
 -- Machinery: what the work words note of a body's literals, and how the literals with one word are linked. No public contract speaks of it.
-use Rattle.std.specs.Prelude.{cond, ◌&&◌, List, [], ◌∷◌, ◌≡◌, ℕ, zero, suc, ◌+◌, ◌*◌, ◌-◌, ◌/◌, ◌%◌, ◌≤◌, ◌<◌, eqb, ltb, length, take, drop, get_or, set}
+use Rattle.std.specs.Prelude.{Option, Some, None, cond, ◌&&◌, List, [], ◌∷◌, ◌≡◌, ℕ, zero, suc, ◌+◌, ◌*◌, ◌-◌, ◌/◌, ◌%◌, ◌≤◌, ◌<◌, eqb, ltb, length, take, drop, get_or, set}
 use Rattle.std.proofs.Math.Option.{some}
 use Rattle.std.proofs.Math.ListN.{get_elem?}
 use Rattle.words.specs.Fields.{kind_of, number_of}
@@ -36,6 +36,11 @@ or_else (suc n) other = suc n
 unfoldable pub last_from : ℕ → ℕ → List ℕ → ℕ
 last_from word i [] = 0
 last_from word i (k ∷ ks) = or_else (last_from word (i + 1) ks) (cond (eqb k word) (i + 1) 0)
+
+-- a number and one, 0 standing for none
+abbrev pub numbered : ℕ → Option ℕ
+numbered zero = None
+numbered (suc n) = Some n
 
 -- of the literals whose words have a key, the first that is the last with its word
 unfoldable pub end_from : ℕ → ℕ → List ℕ → ℕ

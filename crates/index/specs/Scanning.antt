@@ -1,9 +1,7 @@
 -- Machinery: the literals of a body as a scan of its words meets them, and what stands where the scan is. No public contract speaks of it.
-use Rattle.std.specs.Prelude.{Bool, true, false, cond, ◌&&◌, List, [], ◌∷◌, ◌≡◌, ℕ, ◌+◌, ◌-◌, ◌^◌, ◌≤◌, ◌<◌, eqb, length, take, drop, get_or}
+use Rattle.std.specs.Prelude.{Option, Some, None, Bool, true, false, cond, ◌&&◌, List, [], ◌∷◌, ◌≡◌, ℕ, ◌+◌, ◌-◌, ◌^◌, ◌≤◌, ◌<◌, eqb, length, take, drop, get_or}
 use Rattle.words.specs.Fields.{kind_of, negative_of}
 use Rattle.index.specs.declared.entries.Scan.{Scan}
-use Rattle.index.specs.declared.entries.Candidate.{Candidate}
-use Rattle.index.specs.declared.entries.Candidate.TheVariants.{Entry, Done}
 
 abbrev pub begun : Scan
 begun = record { at = 0; clauses = 0; start = 0; literals = 0 }
@@ -42,18 +40,18 @@ pub record NextEntry (words : List ℕ) (wanted : ℕ) (from s : Scan) : Type 0 
   pub here : get_or words s.at 0 ≡ wanted
   pub first : entries_from wanted from (drop from.at words) ≡ s ∷ entries_from wanted (past_word s wanted) (drop (s.at + 1) words)
 
-abbrev pub IsNext : List ℕ → ℕ → Scan → Candidate → Type 0
-IsNext words wanted from (Entry s) = NextEntry words wanted from s
-IsNext words wanted from Done = entries_from wanted from (drop from.at words) ≡ []
+abbrev pub IsNext : List ℕ → ℕ → Scan → Option Scan → Type 0
+IsNext words wanted from (Some s) = NextEntry words wanted from s
+IsNext words wanted from None = entries_from wanted from (drop from.at words) ≡ []
 
 -- a literal of this number, in a clause of this number
 unfoldable pub is_entry : ℕ → ℕ → Scan → ℕ → Bool
 is_entry clause literal s w = eqb (kind_of w) 2 && eqb s.clauses (clause + 1) && eqb s.literals literal
 
-unfoldable pub entry_from : ℕ → ℕ → Scan → List ℕ → Candidate
-entry_from clause literal s [] = Done
+unfoldable pub entry_from : ℕ → ℕ → Scan → List ℕ → Option Scan
+entry_from clause literal s [] = None
 entry_from clause literal s (w ∷ ws) =
-    cond (is_entry clause literal s w) (Entry s) (entry_from clause literal (past_word s w) ws)
+    cond (is_entry clause literal s w) (Some s) (entry_from clause literal (past_word s w) ws)
 
 -- the scan that stands at a literal
 pub record EntryAt (words : List ℕ) (clause literal : ℕ) (s : Scan) : Type 0 where
@@ -63,9 +61,9 @@ pub record EntryAt (words : List ℕ) (clause literal : ℕ) (s : Scan) : Type 0
   pub clauses : s.clauses ≡ clause + 1
   pub literals : s.literals ≡ literal
 
-abbrev pub IsEntry : List ℕ → ℕ → ℕ → Candidate → Type 0
-IsEntry words clause literal (Entry s) = EntryAt words clause literal s
-IsEntry words clause literal Done = entry_from clause literal begun words ≡ Done
+abbrev pub IsEntry : List ℕ → ℕ → ℕ → Option Scan → Type 0
+IsEntry words clause literal (Some s) = EntryAt words clause literal s
+IsEntry words clause literal None = entry_from clause literal begun words ≡ None
 
 -- the literal word of the other sign: bit 15 is the sign
 unfoldable pub other_sign : ℕ → ℕ

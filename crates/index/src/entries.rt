@@ -13,12 +13,6 @@ pub struct Scan {
     pub literals: u32,
 }
 
-#[derive(Clone, Copy)]
-pub enum Candidate {
-    Entry(Scan),
-    Done,
-}
-
 pub fn beginning() -> Scan
     ensures { result ≡ begun }
 {
@@ -31,6 +25,7 @@ pub fn beginning() -> Scan
 }
 
 // The scan past one word.
+#[tactic(auto, using(crate::proofs::Scans::past_laws))]
 pub fn past(scan: Scan, word: u32) -> Scan
     requires { (scan.at < 4294967295) × (scan.clauses ≤ scan.at) × (scan.literals ≤ scan.at) }
     ensures { result ≡ past_word scan word }
@@ -48,20 +43,15 @@ pub fn past(scan: Scan, word: u32) -> Scan
     if kind == 2 {
         return Scan {
             at: at + 1,
-            clauses: scan.clauses,
-            start: scan.start,
             literals: scan.literals + 1,
+            ..scan
         };
     }
-    Scan {
-        at: at + 1,
-        clauses: scan.clauses,
-        start: scan.start,
-        literals: scan.literals,
-    }
+    Scan { at: at + 1, ..scan }
 }
 
 // The literal word of the other sign.
+#[tactic(auto, using(crate::proofs::Scans::flipped))]
 pub fn other_sign(word: u32) -> u32
     ensures { result ≡ other_sign word }
 {

@@ -3,7 +3,7 @@ ghost use Rattle.std.specs.Prelude.{◌≡◌, ℕ, ◌+◌, ◌*◌, ◌/◌, �
 ghost use Rattle.words.specs.Fields.{number_of};
 ghost use Rattle.unification.specs.Places.{work_words};
 ghost use Rattle.index.specs.Places.{most_noted};
-ghost use Rattle.index.specs.Noting.{keys_in, note_at, link_at, first_from, last_from, Indexed, Linked, word_begun, word_joined};
+ghost use Rattle.index.specs.Noting.{keys_in, note_at, link_at, first_from, last_from, numbered, Indexed, Linked, word_begun, word_joined};
 
 use crate::places;
 use unification::memory;
@@ -17,20 +17,20 @@ fn word_of(file: &[u32], work: &[u32], literal: u32) -> u32
     file[fields::wide(work[places::NOTES + 3 * fields::wide(literal)] % 0x4000)]
 }
 
-// The last literal with a word, and one; 0 where there is none.
-fn last_with(file: &[u32], work: &[u32], word: u32) -> u32
+// The last literal with a word.
+fn last_with(file: &[u32], work: &[u32], word: u32) -> Option<u32>
     requires { (body : ℕ) × (from : ℕ) × Linked file.now body work.now from }
-    ensures { (body from : ℕ) → Linked file.now body work.now from → result ≡ last_from word from (drop from (keys_in file.now body)) }
+    ensures { (body from : ℕ) → Linked file.now body work.now from → result ≡ numbered (last_from word from (drop from (keys_in file.now body))) }
 {
     let mut last = work[places::HEADS + fields::wide(fields::number(word))];
     while last != 0 {
         let literal = last - 1;
         if word_of(file, work, literal) == word {
-            return last;
+            return Some(literal);
         }
         last = work[places::NOTES + 3 * fields::wide(literal) + 2];
     }
-    0
+    None
 }
 
 // A literal whose word no later one has.
@@ -65,12 +65,10 @@ fn link_literal(file: &[u32], work: &mut [u32], literal: u32)
     ensures { (body : ℕ) → Linked file.now body work.old (literal + 1) → literal < length (keys_in file.now body) → Linked file.now body work.new literal }
 {
     let word = word_of(file, work, literal);
-    let last = last_with(file, work, word);
-    if last == 0 {
-        begin_word(work, literal, word);
-        return;
+    match last_with(file, work, word) {
+        Some(last) => join_word(work, literal, word, last),
+        None => begin_word(work, literal, word),
     }
-    join_word(work, literal, word, last - 1);
 }
 
 // The noted literals, linked from the last to the first.
@@ -79,10 +77,8 @@ pub fn link(file: &[u32], work: &mut [u32])
     ensures { (body : ℕ) → Indexed file.now body work.old → Linked file.now body work.new 0 }
 {
     memory::clear(work, places::HEADS, places::KEYS);
-    let mut left = work[places::NOTED];
-    while left != 0 {
-        left -= 1;
-        link_literal(file, work, left);
+    for literal in (0..work[places::NOTED]).rev() {
+        link_literal(file, work, literal);
     }
 }
 
@@ -91,11 +87,10 @@ pub fn first(file: &[u32], work: &[u32], word: u32) -> u32
     requires { (body : ℕ) × Linked file.now body work.now 0 }
     ensures { (body : ℕ) → Linked file.now body work.now 0 → result ≡ first_from word 0 (keys_in file.now body) }
 {
-    let last = last_with(file, work, word);
-    if last == 0 {
+    let Some(last) = last_with(file, work, word) else {
         return 0;
-    }
-    work[places::NOTES + 3 * fields::wide(last - 1) + 1] / 0x1000
+    };
+    work[places::NOTES + 3 * fields::wide(last) + 1] / 0x1000
 }
 
 // The next literal with the word of a literal, and one; 0 where there is none.

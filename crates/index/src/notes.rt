@@ -5,7 +5,7 @@ ghost use Rattle.index.specs.Places.{most_noted};
 ghost use Rattle.index.specs.Scanning.{IsEntry};
 ghost use Rattle.index.specs.Noting.{plain_from, moved_to, Fits, Few, packed, noted, Unpacks, unpacked, Indexed};
 
-use crate::entries::{Candidate, Scan};
+use crate::entries::Scan;
 use crate::{entries, places};
 use words::fields;
 
@@ -32,12 +32,7 @@ fn note_literal(work: &mut [u32], number: u32, scan: Scan)
 fn moved(scan: Scan, at: u32) -> Scan
     ensures { result ≡ moved_to scan at }
 {
-    Scan {
-        at,
-        clauses: scan.clauses,
-        start: scan.start,
-        literals: scan.literals,
-    }
+    Scan { at, ..scan }
 }
 
 // The scan past the words that begin neither a clause nor a literal.
@@ -45,14 +40,12 @@ pub fn past_plain(file: &[u32], scan: Scan, body: u32) -> Scan
     requires { (scan.at ≤ body) × (body ≤ length file.now) }
     ensures { result ≡ moved_to scan (plain_from scan.at (drop scan.at (take body file.now))) }
 {
-    let mut at = scan.at;
-    while at < body {
+    for at in scan.at..body {
         if 1 < fields::kind(file[fields::wide(at)]) {
             return moved(scan, at);
         }
-        at += 1;
     }
-    moved(scan, at)
+    moved(scan, body)
 }
 
 // The literals of a body, noted once.
@@ -93,21 +86,21 @@ pub fn unpacked(work: &[u32], number: u32) -> Scan
 }
 
 // The literal of a number in the clause of a number.
-pub fn entry(work: &[u32], clause: u32, literal: u32) -> Candidate
+pub fn entry(work: &[u32], clause: u32, literal: u32) -> Option<Scan>
     requires { ((f : List ℕ) × (body : ℕ) × Indexed f body work.now) × (clause < 512) }
     ensures { (f : List ℕ) (body : ℕ) → Indexed f body work.now → IsEntry (take body f) clause literal result }
 {
     let count = work[places::NOTED];
     let first = work[places::CLAUSES + fields::wide(clause)];
     if count <= first {
-        return Candidate::Done;
+        return None;
     }
     if count - first <= literal {
-        return Candidate::Done;
+        return None;
     }
     let scan = unpacked(work, first + literal);
     if scan.clauses != clause + 1 {
-        return Candidate::Done;
+        return None;
     }
-    Candidate::Entry(scan)
+    Some(scan)
 }

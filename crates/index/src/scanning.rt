@@ -3,12 +3,12 @@ ghost use Rattle.std.specs.Prelude.{◌≡◌, ◌≤◌, length, take};
 ghost use Rattle.words.specs.Fields.{kind_of};
 ghost use Rattle.index.specs.Scanning.{Standing, IsNext};
 
-use crate::entries::{Candidate, Scan};
+use crate::entries::Scan;
 use crate::{entries, notes};
 use words::fields;
 
 // The next literal with a word, from where a scan stands.
-pub fn next(file: &[u32], body: u32, wanted: u32, from: Scan) -> Candidate
+pub fn next(file: &[u32], body: u32, wanted: u32, from: Scan) -> Option<Scan>
     requires { (body ≤ length file.now) × (body ≤ 16000) × (kind_of wanted ≡ 2) × Standing (take body file.now) from }
     ensures { IsNext (take body file.now) wanted from result }
 {
@@ -17,9 +17,9 @@ pub fn next(file: &[u32], body: u32, wanted: u32, from: Scan) -> Candidate
         let here = scan;
         let word = file[fields::wide(here.at)];
         if word == wanted {
-            return Candidate::Entry(here);
+            return Some(here);
         }
         scan = notes::past_plain(file, entries::past(here, word), body);
     }
-    Candidate::Done
+    None
 }

@@ -24,26 +24,6 @@ use Rattle.leaves.specs.Bound.{copies_by, copy_number, slot_at, count_at, words_
 use Rattle.leaves.proofs.Leaves.{past}
 use Rattle.leaves.proofs.Showing.{no_bytes, take_within, literal_cut_is}
 
--- the copy that a step makes
-module _ (w : ℕ) {s : Step} (e : s ≡ step_of w) where
-  pub by_reduction : {h : ℕ} → s ≡ Reduction h → 0 ≡ copies_by (step_of w)
-  unfolding copies_by
-  by_reduction k = rw (← e, k)
-
-  pub by_extension : {i j : ℕ} → s ≡ Extension i j → 1 ≡ copies_by (step_of w)
-  unfolding copies_by
-  by_extension k = rw (← e, k)
-
-  pub by_restart : s ≡ Restart → 0 ≡ copies_by (step_of w)
-  unfolding copies_by
-  by_restart k = rw (← e, k)
-
-  pub by_malformed : s ≡ Malformed → 0 ≡ copies_by (step_of w)
-  unfolding copies_by
-  by_malformed k = rw (← e, k)
-
-pub ruleset by_laws = (by_reduction, by_extension, by_restart, by_malformed)
-
 one_at_most : (s : Step) → copies_by s ≤ 1
 unfolding copies_by
 one_at_most (Reduction h) = omega arith

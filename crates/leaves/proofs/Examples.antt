@@ -5,10 +5,10 @@ use mathlib.Core.Path.{◌≡◌, refl}
 use Prim.Native.Nat.{ℕ}
 use Rattle.words.specs.Steps.{step_of}
 use Rattle.text.specs.Quoted.{bytes}
-use Rattle.leaves.specs.Leaves.{opens, other, hung, started, open_after, leftmost, hung_under, above, ancestor}
+use Rattle.leaves.specs.Leaves.{opens, other, leaf_of, hung, started, open_after, leftmost, hung_under, above, ancestor}
 use Rattle.leaves.specs.Shown.{cut_to}
 use Rattle.leaves.specs.Bound.{copies_by, copy_number, has_variable}
-use Rattle.leaves.specs.declared.leaf.Leaf.TheVariants.{Open, Nothing}
+use Rattle.std.specs.Prelude.{None}
 
 unfoldable opened : Unit {0}
 unfolding step_of opens other hung started open_after hung_under above ancestor cut_to copies_by copy_number has_variable
@@ -21,17 +21,17 @@ abbrev steps : List ℕ
 steps = 0x40000000 ∷ 0x40000001 ∷ []
 
 -- the start's leaf is treated first, then the evening; then no leaf is open
-leaves : leftmost sizes 1 steps 0 ∷ leftmost sizes 1 steps 1 ∷ leftmost sizes 1 steps 2 ∷ [] ≡ Open 0 1 0 ∷ Open 1 0 1 ∷ Nothing ∷ []
+leaves : leftmost sizes 1 steps 0 ∷ leftmost sizes 1 steps 1 ∷ leftmost sizes 1 steps 2 ∷ [] ≡ leaf_of 0 1 0 ∷ leaf_of 1 0 1 ∷ None ∷ []
 unfolding opened
 leaves = refl
 
 -- the evening hangs under the question, which hangs under nothing
-heights : ancestor sizes 1 steps 1 (Open 1 0 1) ∷ ancestor sizes 1 steps 2 (Open 1 0 1) ∷ [] ≡ Open 0 1 0 ∷ Nothing ∷ []
+heights : ancestor sizes 1 steps 1 (leaf_of 1 0 1) ∷ ancestor sizes 1 steps 2 (leaf_of 1 0 1) ∷ [] ≡ leaf_of 0 1 0 ∷ None ∷ []
 unfolding opened
 heights = refl
 
 -- entering the second literal leaves the first open
-entered_second : leftmost sizes 1 (0x40000200 ∷ []) 1 ≡ Open 1 0 0
+entered_second : leftmost sizes 1 (0x40000200 ∷ []) 1 ≡ leaf_of 1 0 0
 unfolding opened
 entered_second = refl
 

@@ -13,9 +13,9 @@ use lib.ListN.{length, get_or}
 use Rattle.words.specs.Steps.{step_of}
 use Rattle.words.specs.declared.Step.{Step}
 use Rattle.words.specs.declared.Step.TheVariants.{Reduction, Extension, Restart, Malformed}
-use Rattle.leaves.specs.Leaves.{opens, other, hung, started, open_after, leftmost, hung_under, above, ancestor}
+use Rattle.leaves.specs.Leaves.{opens, other, leaf_of, hung, started, open_after, leftmost, hung_under, above, ancestor}
 use Rattle.leaves.specs.declared.leaf.Leaf.{Leaf}
-use Rattle.leaves.specs.declared.leaf.Leaf.TheVariants.{Open, Nothing}
+use Rattle.std.specs.Prelude.{Option, Some, None}
 
 pub past : (l : List ℕ) (i : ℕ) → length l ≤ i → get_or l i 0 ≡ 0
 past [] i h = refl
@@ -31,28 +31,11 @@ module _ (l : List ℕ) (place : ℕ) {i : ℕ} (e : i ≡ place) where
 
 pub ruleset at_laws = (at_past, at_place)
 
-pub none_less : {n : ℕ} → n ≡ 0 → 0 ≡ n - 1
-none_less e = omega (arith, e)
-
 -- how many leaves a step hangs, and which
 module _ (sizes : List ℕ) (w : ℕ) {s : Step} (e : s ≡ step_of w) where
-  pub opens_reduction : {h : ℕ} → s ≡ Reduction h → 0 ≡ opens sizes (step_of w)
-  unfolding opens
-  opens_reduction k = rw (← e, k)
-
   pub opens_extension : {i j : ℕ} → s ≡ Extension i j → {q : ℕ} → q ≡ get_or sizes i 0 → {r : ℕ} → r ≡ q - 1 → r ≡ opens sizes (step_of w)
   unfolding opens
   opens_extension k eq er = er ∙ rw (← e, k, eq)
-
-  pub opens_restart : s ≡ Restart → 0 ≡ opens sizes (step_of w)
-  unfolding opens
-  opens_restart k = rw (← e, k)
-
-  pub opens_malformed : s ≡ Malformed → 0 ≡ opens sizes (step_of w)
-  unfolding opens
-  opens_malformed k = rw (← e, k)
-
-pub ruleset opens_laws = (opens_reduction, opens_extension, opens_restart, opens_malformed)
 
 module _ {entered n : ℕ} where
   pub other_before : n < entered → n ≡ other entered n
@@ -69,30 +52,16 @@ other_fits h = record { fits = omega arith }
 pub ruleset other_laws = (other_before, other_after, other_fits)
 
 module _ (number n w : ℕ) {s : Step} (e : s ≡ step_of w) where
-  pub hung_reduction : {h : ℕ} → s ≡ Reduction h → Nothing ≡ hung number n (step_of w)
-  unfolding hung
-  hung_reduction k = rw (← e, k)
-
-  pub hung_extension : {i j : ℕ} → s ≡ Extension i j → {o : ℕ} → o ≡ other j n → Open number i o ≡ hung number n (step_of w)
+  pub hung_extension : {i j : ℕ} → s ≡ Extension i j → {o : ℕ} → o ≡ other j n → leaf_of number i o ≡ hung number n (step_of w)
   unfolding hung
   hung_extension k eo = rw (← e, k, eo)
 
-  pub hung_restart : s ≡ Restart → Nothing ≡ hung number n (step_of w)
-  unfolding hung
-  hung_restart k = rw (← e, k)
-
-  pub hung_malformed : s ≡ Malformed → Nothing ≡ hung number n (step_of w)
-  unfolding hung
-  hung_malformed k = rw (← e, k)
-
-pub ruleset hung_laws = (hung_reduction, hung_extension, hung_restart, hung_malformed)
-
 module _ (sizes : List ℕ) (question n : ℕ) {size : ℕ} (e : size ≡ get_or sizes question 0) where
-  pub started_open : n < size → Open 0 question n ≡ started sizes question n
+  pub started_open : n < size → leaf_of 0 question n ≡ started sizes question n
   unfolding started
   started_open h = rw (← e, lt-ltb n size h)
 
-  pub started_none : size ≤ n → Nothing ≡ started sizes question n
+  pub started_none : size ≤ n → None ≡ started sizes question n
   unfolding started
   started_none h = rw (← e, le-ltb n size h)
 
@@ -107,7 +76,7 @@ pub seek_begin : (sizes : List ℕ) (question : ℕ) (steps : List ℕ) (done : 
 seek_begin sizes question steps done = record { low = omega arith; same = refl }
 
 module _ {sizes : List ℕ} {question : ℕ} {steps : List ℕ} {done n i : ℕ} (g : Seeking sizes question steps done n i) where
-  pub seek_over : i ≤ 0 → {r : Leaf} → r ≡ started sizes question n → r ≡ leftmost sizes question steps done
+  pub seek_over : i ≤ 0 → {r : Option Leaf} → r ≡ started sizes question n → r ≡ leftmost sizes question steps done
   unfolding open_after
   seek_over h e = let z : i ≡ 0 = omega (arith, h) in e ∙ sym (rw z at g.same)
 
@@ -127,7 +96,7 @@ module _ {sizes : List ℕ} {question : ℕ} {steps : List ℕ} {done n i : ℕ}
       here : open_after sizes question steps i n ≡ cond (ltb n many) (hung i n (step_of w)) (open_after sizes question steps (i - 1) (suc (n - many)))
       here = stepped (i - 1) (omega (arith, h)) ew
 
-      pub seek_found : n < many → {r : Leaf} → r ≡ hung i n (step_of w) → r ≡ leftmost sizes question steps done
+      pub seek_found : n < many → {r : Option Leaf} → r ≡ hung i n (step_of w) → r ≡ leftmost sizes question steps done
       seek_found l e = e ∙ sym (g.same ∙ here ∙ rw (lt-ltb n many l))
 
       pub seek_next : many ≤ n → Seeking sizes question steps done (n - many + 1) (i - 1)
@@ -137,43 +106,43 @@ pub ruleset seek_laws = (seek_begin, seek_over, seek_low, seek_fits, seek_found,
 
 -- ancestors
 module _ (sizes : List ℕ) (question : ℕ) (steps : List ℕ) where
-  pub under_start : {number : ℕ} → number ≡ 0 → Nothing ≡ hung_under sizes question steps number
+  pub under_start : {number : ℕ} → number ≡ 0 → None ≡ hung_under sizes question steps number
   unfolding hung_under
   under_start e = rw e
 
-  pub under_step : (number : ℕ) → (number ≡ 0 → ⊥) → {r : Leaf} → r ≡ leftmost sizes question steps (number - 1) → r ≡ hung_under sizes question steps number
+  pub under_step : (number : ℕ) → (number ≡ 0 → ⊥) → {r : Option Leaf} → r ≡ leftmost sizes question steps (number - 1) → r ≡ hung_under sizes question steps number
   unfolding hung_under
   under_step zero n e = absurd (n refl)
   under_step (suc k) n e = let z : suc k - 1 ≡ k = omega arith in rw z at e
 
-  module _ {leaf : Leaf} where
-    pub above_open : {number i j : ℕ} → leaf ≡ Open number i j → {r : Leaf} → r ≡ hung_under sizes question steps number → r ≡ above sizes question steps leaf
+  module _ {leaf : Option Leaf} where
+    pub above_open : {l : Leaf} → leaf ≡ Some l → {r : Option Leaf} → r ≡ hung_under sizes question steps l.number → r ≡ above sizes question steps leaf
     unfolding above
     above_open e h = rw e h
 
-    pub above_none : leaf ≡ Nothing → Nothing ≡ above sizes question steps leaf
+    pub above_none : leaf ≡ None → None ≡ above sizes question steps leaf
     unfolding above
     above_none e = rw e
 
 pub ruleset above_laws = (under_start, under_step, above_open, above_none)
 
-pub record Climbing (sizes : List ℕ) (question : ℕ) (steps : List ℕ) (height : ℕ) (leaf : Leaf) (left : ℕ) (reached : Leaf) : Type 0 where
-  pub same : ancestor sizes question steps height leaf ≡ ancestor sizes question steps left reached
+pub record Climbing (sizes : List ℕ) (question : ℕ) (steps : List ℕ) (height : ℕ) (leaf : Option Leaf) (climbed : ℕ) (reached : Option Leaf) : Type 0 where
+  pub same : ancestor sizes question steps height leaf ≡ ancestor sizes question steps (height - climbed) reached
 
-pub climb_begin : (sizes : List ℕ) (question : ℕ) (steps : List ℕ) (height : ℕ) (leaf : Leaf) → Climbing sizes question steps height leaf height leaf
-climb_begin sizes question steps height leaf = record { same = refl }
+pub climb_begin : (sizes : List ℕ) (question : ℕ) (steps : List ℕ) (height : ℕ) (leaf : Option Leaf) → Climbing sizes question steps height leaf 0 leaf
+climb_begin sizes question steps height leaf = record { same = let z : height - 0 ≡ height = omega arith in rw z }
 
-module _ {sizes : List ℕ} {question : ℕ} {steps : List ℕ} {height : ℕ} {leaf : Leaf} {left : ℕ} {reached : Leaf} (g : Climbing sizes question steps height leaf left reached) where
-  pub climb_over : left ≤ 0 → reached ≡ ancestor sizes question steps height leaf
+module _ {sizes : List ℕ} {question : ℕ} {steps : List ℕ} {height : ℕ} {leaf : Option Leaf} {climbed : ℕ} {reached : Option Leaf} (g : Climbing sizes question steps height leaf climbed reached) where
+  pub climb_over : height ≤ climbed → reached ≡ ancestor sizes question steps height leaf
   unfolding ancestor
-  climb_over h = let z : left ≡ 0 = omega (arith, h) in sym (rw z at g.same)
+  climb_over h = let z : height - climbed ≡ 0 = omega (arith, h) in sym (rw z at g.same)
 
-  pub climb_on : 0 < left → {next : Leaf} → next ≡ above sizes question steps reached → Climbing sizes question steps height leaf (left - 1) next
+  pub climb_on : climbed < height → {next : Option Leaf} → next ≡ above sizes question steps reached → Climbing sizes question steps height leaf (climbed + 1) next
   unfolding ancestor
-  climb_on h e = record { same = g.same ∙ up (left - 1) (omega (arith, h)) e }
+  climb_on h e = record { same = g.same ∙ up (height - (climbed + 1)) (omega (arith, h)) e }
     where
-      up : (k : ℕ) → left ≡ suc k → {next : Leaf} → next ≡ above sizes question steps reached
-          → ancestor sizes question steps left reached ≡ ancestor sizes question steps k next
+      up : (k : ℕ) → height - climbed ≡ suc k → {next : Option Leaf} → next ≡ above sizes question steps reached
+          → ancestor sizes question steps (height - climbed) reached ≡ ancestor sizes question steps k next
       up k z en = rw (z, en)
 
 pub ruleset climb_laws = (climb_begin, climb_over, climb_on)

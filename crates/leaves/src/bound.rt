@@ -1,5 +1,5 @@
 // What a literal's variables are bound to.
-ghost use Rattle.std.specs.Prelude.{◌≡◌, ◌+◌, ◌*◌, min, ◌≤◌, length};
+ghost use Rattle.std.specs.Prelude.{◌≡◌, ◌+◌, ◌*◌, ◌≤◌, length};
 ghost use Rattle.words.specs.Steps.{step_of};
 ghost use Rattle.text.specs.Put.{Put};
 ghost use Rattle.leaves.specs.Bound.{copies_by, copy_number, slot_at, count_at, words_at, mark_text, bound_cut, has_variable, is_told, told_text};
@@ -16,10 +16,8 @@ fn copies_by(w: u32) -> u32
     ensures { result ≡ copies_by (step_of w) }
 {
     match decode(w) {
-        Step::Reduction(_) => 0,
         Step::Extension(_, _) => 1,
-        Step::Restart => 0,
-        Step::Malformed => 0,
+        Step::Reduction(_) | Step::Restart | Step::Malformed => 0,
     }
 }
 
@@ -28,10 +26,8 @@ pub fn copy_number(steps: &[u32], number: u32) -> u32
     ensures { result ≡ copy_number steps.now number }
 {
     let mut count: u32 = 0;
-    let mut i: u32 = 0;
-    while i < number {
+    for i in 0..number {
         count += copies_by(at(steps, i));
-        i += 1;
     }
     count
 }
@@ -39,12 +35,10 @@ pub fn copy_number(steps: &[u32], number: u32) -> u32
 fn has_variable(own: &[u32]) -> bool
     ensures { result ≡ has_variable own.now }
 {
-    let mut i = 0;
-    while i < own.len() {
-        if fields::kind(own[i]) == 0 {
+    for w in own {
+        if fields::kind(*w) == 0 {
             return true;
         }
-        i += 1;
     }
     false
 }
@@ -66,21 +60,12 @@ fn count(bound: &[u32], copy: u32, literal: u32) -> u32
     bound[place]
 }
 
-fn most(count: u32) -> usize
-    ensures { result ≡ min count 64 }
-{
-    if count < 64 {
-        return wide(count);
-    }
-    64
-}
-
 // The words that are shown.
 fn words(bound: &[u32], copy: u32, literal: u32) -> &[u32]
     ensures result_value { result.now ≡ words_at bound.now copy literal }
     ensures result_len_bound { length result.now ≤ 4096 }
 {
-    let own = most(count(bound, copy, literal));
+    let own = wide(count(bound, copy, literal).min(64));
     part::front(part::rest(bound, slot(copy, literal)), own)
 }
 
@@ -110,7 +95,7 @@ fn literal_bound(
     let own = words(bound, copy, literal);
     let a = show::words(text, index, part::front(index, 0), 1, own, &mut space, 0);
     let b = mark(64 < count(bound, copy, literal), &mut space, a);
-    shown::cut(part::front_bytes(&space, b), 120, out, from)
+    shown::cut(part::front(&space, b), 120, out, from)
 }
 
 // Whether anything is told: the copy has been made, and the literal has variables.

@@ -3,7 +3,6 @@ ghost use Rattle.std.specs.Prelude.{◌≡◌, ◌≤◌, length};
 ghost use Rattle.text.specs.Put.{Put};
 ghost use Rattle.leaves.specs.Shown.{clause_in, size_in, sizes_in, question_in, literal_shown, literal_cut, name_cut, cut_to, literal_word_in};
 
-use crate::leaf::one_less;
 use naming::{lookup, show};
 use table::file;
 use text::{part, put};
@@ -23,7 +22,7 @@ fn size(file: &[u32], number: usize) -> u32
     ensures { result ≡ size_in file.now number }
 {
     let own = clause(file, number);
-    if own.len() == 0 {
+    if own.is_empty() {
         return 0;
     }
     fields::literals(own[0])
@@ -34,10 +33,8 @@ pub fn sizes(file: &[u32], out: &mut [u32]) -> usize
     ensures { Put out.old 0 (sizes_in file.now) out.new result }
 {
     let mut at = 0;
-    let mut number = 0;
-    while number < 512 {
+    for number in 0..512 {
         at = put::word(out, at, size(file, number));
-        number += 1;
     }
     at
 }
@@ -49,7 +46,7 @@ pub fn question(file: &[u32]) -> u32
     if file.len() < 4 {
         return 0;
     }
-    one_less(file[file.len() - 4 + 1])
+    file[file.len() - 4 + 1].saturating_sub(1)
 }
 
 // A literal as its clause has it.
@@ -77,7 +74,7 @@ pub(crate) fn cut(own: &[u8], most: usize, out: &mut [u8], from: usize) -> usize
     if own.len() <= most {
         return put::bytes(out, from, own);
     }
-    let front = put::bytes(out, from, part::front_bytes(own, most));
+    let front = put::bytes(out, from, part::front(own, most));
     put::bytes(out, front, b"...")
 }
 
@@ -96,7 +93,7 @@ pub fn literal_cut(
 {
     let mut space = [0u8; 121];
     let n = literal(text, index, file, number, which, &mut space, 0);
-    cut(part::front_bytes(&space, n), 120, out, from)
+    cut(part::front(&space, n), 120, out, from)
 }
 
 pub fn name_cut(text: &[u8], index: &[u32], number: u32, out: &mut [u8], from: usize) -> usize
@@ -111,7 +108,7 @@ pub fn literal_word(file: &[u32], number: u32, which: u32) -> u32
     ensures { result ≡ literal_word_in file.now number which }
 {
     let own = show::literal(clause(file, wide(number)), wide(which));
-    if own.len() == 0 {
+    if own.is_empty() {
         return 0;
     }
     own[0]

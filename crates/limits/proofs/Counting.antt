@@ -33,18 +33,11 @@ module _ {marks : List ℕ} where
     unfolding most_in
     most_end h = sym (inv.same ∙ rw (drop_of_length-le marks h) (omega arith))
 
-    module _ (h : i < length marks) {parts : ℕ} (e : parts ≡ get_or marks i 0 / 8) where
-      here : most_in marks ≡ max most (max parts (most_in (drop (i + 1) marks)))
-      unfolding most_in
-      here = inv.same ∙ rw (add-one i, drop-cons marks i 0 h, e)
+    pub most_next : i < length marks → {most' : ℕ} → most' ≡ max most (get_or marks i 0 / 8) → Most marks most' (i + 1)
+    unfolding most_in
+    most_next h e = record { same = inv.same ∙ rw (add-one i, drop-cons marks i 0 h, e) (omega arith) }
 
-      pub most_larger : most < parts → Most marks parts (i + 1)
-      most_larger g = record { same = here ∙ omega arith }
-
-      pub most_kept : parts ≤ most → Most marks most (i + 1)
-      most_kept g = record { same = here ∙ omega arith }
-
-pub ruleset most_laws = (most_begin, most_end, most_larger, most_kept)
+pub ruleset most_laws = (most_begin, most_end, most_next)
 
 -- kinds of words
 sort_low : (sort : ℕ) → sort_kind sort ≤ 3

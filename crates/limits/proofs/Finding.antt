@@ -6,9 +6,9 @@ use Prim.Native.Nat.{ℕ, suc, ◌+◌, ◌-◌, ◌%◌, ◌≤◌, ◌<◌}
 use native.Mathlib.Omega.{arith}
 use mir.Syntax.{w64}
 use mir.Val.{Fits}
-use borrow.Author.Tests.{not-true, not-false}
 use lib.Dec.{eqb}
 use lib.ListN.{length, take, drop, get_or, length-append, length-take}
+use Rattle.std.specs.Prelude.{Option, Some, None, is_some}
 use Rattle.clausetext.specs.Syntax.{Role, Axiom, Hypothesis, NegatedConjecture, Clause}
 use Rattle.clausetext.specs.Texts.{Says}
 use Rattle.clausetext.proofs.OneReading.{one_reading}
@@ -18,10 +18,9 @@ use Rattle.tptp.specs.Sketch.{clause_sort}
 use Rattle.tptp.specs.Memory.{Gathered}
 use Rattle.tptp.specs.Body.{ahead, part, Held}
 use Rattle.limits.specs.declared.find.Limit.{Limit}
-use Rattle.limits.specs.declared.find.Limit.TheVariants.{Nothing, Literals, Arguments, Variables, Words, Clauses, Predicates, Functions, Total}
 use Rattle.limits.specs.declared.find.Passed.{Passed}
-use Rattle.limits.specs.Over.{or_else, is_nothing, Over, or_next, limit_with, first_over}
-use Rattle.limits.specs.Counting.{OwnLimit, SharedLimit, LimitAt, passed_by, Finds}
+use Rattle.limits.specs.Over.{shared_limit, or_else, Over, or_next, limit_with, first_over}
+use Rattle.limits.specs.Counting.{OwnLimit, SharedLimit, LimitAt, passed_by, Found}
 use Rattle.limits.proofs.Cutting.{some_items, Cut, cut_begin, Next, cut_over, next, upto, all_said, mark_parts, mark_sort, end_later, end_inside, end_falls, own_part, front_part, cut_next}
 
 -- the names of clauses of a sort
@@ -70,32 +69,23 @@ at_seam : (xs ys : List Name) (y : Name) → get_or (xs ++ (y ∷ ys)) (length x
 at_seam [] ys y = refl
 at_seam (x ∷ xs) ys y = at_seam xs ys y
 
-passed_so : (l : Limit) → is_nothing l ≡ false → (name : Name) (rest : Over) → or_next l name rest ≡ record { limit = l; name = name }
-passed_so Nothing e name rest = let z : ◌≡◌ {A = ℕ} 0 1 = cc in absurd (omega arith)
-passed_so Literals e name rest = refl
-passed_so Arguments e name rest = refl
-passed_so Variables e name rest = refl
-passed_so Words e name rest = refl
-passed_so Clauses e name rest = refl
-passed_so Predicates e name rest = refl
-passed_so Functions e name rest = refl
-passed_so Total e name rest = refl
-
-passed_over : (l : Limit) → is_nothing l ≡ true → (name : Name) (rest : Over) → or_next l name rest ≡ rest
-passed_over Nothing e name rest = refl
-passed_over Literals e name rest = let z : ◌≡◌ {A = ℕ} 0 1 = cc in absurd (omega arith)
-passed_over Arguments e name rest = let z : ◌≡◌ {A = ℕ} 0 1 = cc in absurd (omega arith)
-passed_over Variables e name rest = let z : ◌≡◌ {A = ℕ} 0 1 = cc in absurd (omega arith)
-passed_over Words e name rest = let z : ◌≡◌ {A = ℕ} 0 1 = cc in absurd (omega arith)
-passed_over Clauses e name rest = let z : ◌≡◌ {A = ℕ} 0 1 = cc in absurd (omega arith)
-passed_over Predicates e name rest = let z : ◌≡◌ {A = ℕ} 0 1 = cc in absurd (omega arith)
-passed_over Functions e name rest = let z : ◌≡◌ {A = ℕ} 0 1 = cc in absurd (omega arith)
-passed_over Total e name rest = let z : ◌≡◌ {A = ℕ} 0 1 = cc in absurd (omega arith)
-
 -- the limit at a clause
-pub limit_joined : (text marks places : List ℕ) {at end clauses : ℕ} {own shared r : Limit} → OwnLimit text (get_or marks at 0) (part (at + 1) end marks) (part (at + 1) end places) own
-    → SharedLimit text (part 0 end marks) (part 0 end places) clauses shared → r ≡ or_else own shared → LimitAt text marks places at end clauses r
-limit_joined text marks places o s e = record { is = λ ls cs i m j k. e ∙ ap₂ (λ (a b : Limit). or_else a b) (o.is ls i m) (s.is cs j k) }
+module _ (text marks places : List ℕ) {at end clauses : ℕ} {own : Option Limit} (o : OwnLimit text (get_or marks at 0) (part (at + 1) end marks) (part (at + 1) end places) own) where
+  pub limit_own : is_some own ≡ true → LimitAt text marks places at end clauses own
+  limit_own e = record { is = λ ls cs i m j k. go own e (shared_limit cs) ∙ ap (λ (a : Option Limit). or_else a (shared_limit cs)) (o.is ls i m) }
+    where
+      go : (a : Option Limit) → is_some a ≡ true → (b : Option Limit) → a ≡ or_else a b
+      go None e b = let z : ◌≡◌ {A = ℕ} 0 1 = cc in absurd (omega arith)
+      go (Some l) e b = refl
+
+  pub limit_shared : is_some own ≡ false → {r : Option Limit} → SharedLimit text (part 0 end marks) (part 0 end places) clauses r → LimitAt text marks places at end clauses r
+  limit_shared e {r} s = record { is = λ ls cs i m j k. go own e ∙ ap₂ (λ (a b : Option Limit). or_else a b) (o.is ls i m) (s.is cs j k) }
+    where
+      go : (a : Option Limit) → is_some a ≡ false → r ≡ or_else a r
+      go None e = refl
+      go (Some l) e = let z : ◌≡◌ {A = ℕ} 0 1 = cc in absurd (omega arith)
+
+pub ruleset at_laws = (limit_own, limit_shared)
 
 -- the clauses before a place pass no limit
 pub record Searching (text marks places : List ℕ) (stated asked at : ℕ) : Type 0 where
@@ -115,16 +105,11 @@ module _ {text marks places : List ℕ} {stated asked at : ℕ} (inv : Searching
   counted-low : stated + asked ≤ at
   counted-low = omega (arith, counted, some_items inv.cut.before, inv.cut.place)
 
-  pub search_end : length marks ≤ at → Finds text (record { limit = Nothing; asked = false; number = 0 })
+  pub search_end : length marks ≤ at → (ds : List Clause) → Says text ds → (first_over [] ds).limit ≡ None
   unfolding first_over
-  search_end h = record {
-    limit = λ ds y.
-        let all : first_over [] (inv.cut.before ++ inv.cut.rest) ≡ first_over inv.cut.before [] = inv.so_far ∙ ap (λ (l : List Clause). first_over inv.cut.before l) (cut_over inv.cut even h) in
-        ap (λ (o : Over). o.limit) (sym all ∙ ap (λ (l : List Clause). first_over [] l) (one_reading inv.cut.says y));
-    name = λ ds y e. let z : ◌≡◌ {A = ℕ} 0 1 = cc in absurd (omega arith);
-    there = λ ds y e. let z : ◌≡◌ {A = ℕ} 0 1 = cc in absurd (omega arith);
-    few = omega arith;
-  }
+  search_end h ds y =
+      let all : first_over [] (inv.cut.before ++ inv.cut.rest) ≡ first_over inv.cut.before [] = inv.so_far ∙ ap (λ (l : List Clause). first_over inv.cut.before l) (cut_over inv.cut even h) in
+      ap (λ (o : Over). o.limit) (ap (λ (l : List Clause). first_over [] l) (sym (one_reading inv.cut.says y)) ∙ all)
 
   module _ (h : at < length marks) where
     abbrev here : Next inv.cut.rest
@@ -158,7 +143,7 @@ module _ {text marks places : List ℕ} {stated asked at : ℕ} (inv : Searching
       upto-count : stated + asked + 1 ≡ length sofar
       upto-count = omega (arith, counted, length-append inv.cut.before (here.this ∷ []))
 
-      module _ {l : Limit} (i : LimitAt text marks places at end (stated + asked + 1) l) where
+      module _ {l : Option Limit} (i : LimitAt text marks places at end (stated + asked + 1) l) where
         limit_is : l ≡ limit_with inv.cut.before here.this
         limit_is = i.is here.this.literals sofar (own_part inv.cut even h e) (mark_parts inv.cut even h) (front_part inv.cut even h e) upto-count
 
@@ -170,36 +155,37 @@ module _ {text marks places : List ℕ} {stated asked at : ℕ} (inv : Searching
           question_is : q ≡ asks here.this.role
           question_is = m ∙ ap (λ (s : ℕ). eqb s 5) (mark_sort inv.cut even h) ∙ role_asks here.this.role
 
-          found_here : is_nothing l ≡ false → length marks ≤ 65536 → (t : Bool) → asks here.this.role ≡ t → (n : ℕ) → n ≡ length (names_of t inv.cut.before) → n ≤ stated + asked
-              → Finds text (record { limit = l; asked = t; number = n })
-          found_here f small t a n k low = record {
-            limit = λ ds y. sym (ap (λ (o : Over). o.limit) (over_is ds y));
-            name = λ ds y _. named ds y ∙ sym (ap (λ (o : Over). o.name) (over_is ds y));
-            there = λ ds y _. rw (← one_reading inv.cut.says y, split-names, k) (omega (arith, length-append (names_of t inv.cut.before) (here.this.name ∷ names_of t here.others)));
-            few = omega (arith, counted-low);
-          }
-            where
-              over_is : (ds : List Clause) → Says text ds → first_over [] ds ≡ record { limit = l; name = here.this.name }
-              over_is ds y = ap (λ (x : List Clause). first_over [] x) (sym (one_reading inv.cut.says y)) ∙ first_here ∙ passed_so l f here.this.name (first_over sofar here.others)
+          module _ {limit : Limit} (f : l ≡ Some limit) (small : length marks ≤ 65536) where
+            found_here : (t : Bool) → asks here.this.role ≡ t → (n : ℕ) → n ≡ length (names_of t inv.cut.before) → n ≤ stated + asked
+                → Found text (record { limit = limit; asked = t; number = n })
+            found_here t a n k low = record {
+              limit = λ ds y. ap (λ (o : Over). o.limit) (over_is ds y);
+              name = λ ds y. named ds y ∙ sym (ap (λ (o : Over). o.name) (over_is ds y));
+              there = λ ds y. rw (← one_reading inv.cut.says y, split-names, k) (omega (arith, length-append (names_of t inv.cut.before) (here.this.name ∷ names_of t here.others)));
+              few = omega (arith, counted-low);
+            }
+              where
+                over_is : (ds : List Clause) → Says text ds → first_over [] ds ≡ record { limit = Some limit; name = here.this.name }
+                over_is ds y = ap (λ (x : List Clause). first_over [] x) (sym (one_reading inv.cut.says y)) ∙ first_here ∙ rw f
 
-              split-names : names_of t (inv.cut.before ++ inv.cut.rest) ≡ names_of t inv.cut.before ++ (here.this.name ∷ names_of t here.others)
-              split-names =
-                  ap (λ (r : List Clause). names_of t (inv.cut.before ++ r)) here.is ∙ names_append t inv.cut.before (here.this ∷ here.others)
-                  ∙ ap (λ (x : List Name). names_of t inv.cut.before ++ x) (rw (← a) (own_named here.this here.others))
+                split-names : names_of t (inv.cut.before ++ inv.cut.rest) ≡ names_of t inv.cut.before ++ (here.this.name ∷ names_of t here.others)
+                split-names =
+                    ap (λ (r : List Clause). names_of t (inv.cut.before ++ r)) here.is ∙ names_append t inv.cut.before (here.this ∷ here.others)
+                    ∙ ap (λ (x : List Name). names_of t inv.cut.before ++ x) (rw (← a) (own_named here.this here.others))
 
-              named : (ds : List Clause) → Says text ds → get_or (names_of t ds) n [] ≡ here.this.name
-              named ds y = rw (← one_reading inv.cut.says y, split-names, k) (at_seam (names_of t inv.cut.before) (names_of t here.others) here.this.name)
+                named : (ds : List Clause) → Says text ds → get_or (names_of t ds) n [] ≡ here.this.name
+                named ds y = rw (← one_reading inv.cut.says y, split-names, k) (at_seam (names_of t inv.cut.before) (names_of t here.others) here.this.name)
 
-          pub search_found : {b : Bool} → b ≡ is_nothing l → b ≡ false → length marks ≤ 65536 → {r : Passed} → r ≡ passed_by l q stated asked → Finds text r
-          search_found n f small g = rw g (go q question_is)
-            where
-              go : (t : Bool) → t ≡ asks here.this.role → Finds text (passed_by l t stated asked)
-              go true a = found_here (sym n ∙ f) small true (sym a) asked inv.asked_are (omega arith)
-              go false a = found_here (sym n ∙ f) small false (sym a) stated inv.stated_are (omega arith)
+            pub search_found : {r : Passed} → r ≡ passed_by limit q stated asked → Found text r
+            search_found g = rw g (go q question_is)
+              where
+                go : (t : Bool) → t ≡ asks here.this.role → Found text (passed_by limit t stated asked)
+                go true a = found_here true (sym a) asked inv.asked_are (omega arith)
+                go false a = found_here false (sym a) stated inv.stated_are (omega arith)
 
-          module _ {b : Bool} (n : b ≡ is_nothing l) (f : b ≡ true) where
+          module _ (f : l ≡ None) where
             passed_here : first_over [] (sofar ++ here.others) ≡ first_over sofar here.others
-            passed_here = ap (λ (x : List Clause). first_over [] x) (sym (all_said inv.cut even h)) ∙ first_here ∙ passed_over l (sym n ∙ f) here.this.name (first_over sofar here.others)
+            passed_here = ap (λ (x : List Clause). first_over [] x) (sym (all_said inv.cut even h)) ∙ first_here ∙ rw f
 
             names-upto : (t : Bool) → length (names_of t sofar) ≡ length (names_of t inv.cut.before) + length (names_of t (here.this ∷ []))
             names-upto t = ap (λ (x : List Name). length x) (names_append t inv.cut.before (here.this ∷ [])) ∙ length-append (names_of t inv.cut.before) (names_of t (here.this ∷ []))
@@ -219,13 +205,7 @@ module _ {text marks places : List ℕ} {stated asked at : ℕ} (inv : Searching
                 onward (omega (arith, inv.stated_are, names-upto false, o.1)) (omega (arith, inv.asked_are, names-upto true, o.0))
 
 pub ruleset search_laws =
-    (search_begin, search_end, count_fits, count_fits_more, asked_fits, stated_fits, clause_later, clause_inside, clause_falls, search_found, search_asked, search_stated, not-true, not-false)
-
-pub passing_asked : (l : Limit) {q : Bool} (stated asked : ℕ) → q ≡ true → record { limit = l; asked = true; number = asked } ≡ passed_by l q stated asked
-passing_asked l stated asked e = rw e
-
-pub passing_stated : (l : Limit) {q : Bool} (stated asked : ℕ) → q ≡ false → record { limit = l; asked = false; number = stated } ≡ passed_by l q stated asked
-passing_stated l stated asked e = rw e
+    (search_begin, search_end, count_fits, count_fits_more, asked_fits, stated_fits, clause_later, clause_inside, clause_falls, search_found, search_asked, search_stated)
 
 -- the items of a text, gathered in memory
 pub gathered_short : {text marks places : List ℕ} {count : ℕ} → Gathered text marks places count → length (take (count - 0) (drop 0 marks)) ≤ 65536

@@ -7,13 +7,14 @@ use native.Mathlib.Omega.{arith}
 use borrow.Author.Tests.{lt-ltb, le-ltb}
 use lib.Dec.{ltb}
 use lib.ListN.{length}
+use Rattle.std.specs.Prelude.{Some, None}
 use Rattle.clausetext.specs.Syntax.{Literal, Clause}
 use Rattle.names.specs.Numbers.{Name, first_uses}
 use Rattle.tptp.specs.Said.{predicates, functions, variables}
 use Rattle.tptp.specs.Sketch.{Item, literals_items, clauses_items}
 use Rattle.tptp.specs.Memory.{items_of}
 use Rattle.tptp.proofs.Items.{names_of_kind, literals_variables, clauses_functions, clauses_predicates}
-use Rattle.limits.specs.declared.find.Limit.TheVariants.{Nothing, Literals, Arguments, Variables, Words, Clauses, Predicates, Functions, Total}
+use Rattle.limits.specs.declared.find.Limit.TheVariants.{Literals, Arguments, Variables, Words, Clauses, Predicates, Functions, Total}
 use Rattle.limits.specs.Over.{most_parts, own_limit, shared_limit}
 use Rattle.limits.specs.Counting.{most_in, more_than, OwnLimit, SharedLimit}
 use Rattle.limits.proofs.Counting.{items_long, most_items, more_items}
@@ -33,7 +34,7 @@ module _ (text marks places : List ℕ) (even : length marks ≡ length places) 
     words_are = sym (items_long text marks places even) ∙ ap (λ (is : List Item). length is) i
 
   module _ (clause : ℕ) where
-    pub own_literals : 7 < clause / 8 → OwnLimit text clause marks places Literals
+    pub own_literals : 7 < clause / 8 → OwnLimit text clause marks places (Some Literals)
     unfolding own_limit
     own_literals h = record { is = λ ls i e. let a : ltb 7 (length ls) ≡ true = lt-ltb 7 (length ls) (omega (arith, e)) in sym (rw a) }
 
@@ -41,7 +42,7 @@ module _ (text marks places : List ℕ) (even : length marks ≡ length places) 
       literals-few : (ls : List Literal) → clause / 8 ≡ length ls → ltb 7 (length ls) ≡ false
       literals-few ls e = le-ltb 7 (length ls) (omega (arith, e))
 
-      pub own_arguments : 4 < most → OwnLimit text clause marks places Arguments
+      pub own_arguments : 4 < most → OwnLimit text clause marks places (Some Arguments)
       unfolding own_limit
       own_arguments h = record {
         is = λ ls i e.
@@ -53,7 +54,7 @@ module _ (text marks places : List ℕ) (even : length marks ≡ length places) 
         arguments-few : (ls : List Literal) → items_of text marks places ≡ literals_items ls → ltb 4 (most_parts (literals_items ls)) ≡ false
         arguments-few ls i = le-ltb 4 (most_parts (literals_items ls)) (omega (arith, most-is ls i))
 
-        pub own_variables : v ≡ true → OwnLimit text clause marks places Variables
+        pub own_variables : v ≡ true → OwnLimit text clause marks places (Some Variables)
         unfolding own_limit
         own_variables t = record {
           is = λ ls i e.
@@ -65,7 +66,7 @@ module _ (text marks places : List ℕ) (even : length marks ≡ length places) 
           variables-few : (ls : List Literal) → items_of text marks places ≡ literals_items ls → ltb 16 (length (variables ls)) ≡ false
           variables-few ls i = sym (variables-are ls i) ∙ sym w ∙ f
 
-          pub own_words_lem : 255 < length marks → OwnLimit text clause marks places Words
+          pub own_words_lem : 255 < length marks → OwnLimit text clause marks places (Some Words)
           unfolding own_limit
           own_words_lem h = record {
             is = λ ls i e.
@@ -73,7 +74,7 @@ module _ (text marks places : List ℕ) (even : length marks ≡ length places) 
                 sym (rw (literals-few ls e, arguments-few ls i, variables-few ls i, b));
           }
 
-          pub own_nothing : length marks ≤ 255 → OwnLimit text clause marks places Nothing
+          pub own_nothing : length marks ≤ 255 → OwnLimit text clause marks places None
           unfolding own_limit
           own_nothing h = record {
             is = λ ls i e.
@@ -97,7 +98,7 @@ module _ (text marks places : List ℕ) (even : length marks ≡ length places) 
     all_words = sym (items_long text marks places even) ∙ ap (λ (is : List Item). length is) i
 
   module _ (clauses : ℕ) where
-    pub shared_clauses : 512 < clauses → SharedLimit text marks places clauses Clauses
+    pub shared_clauses : 512 < clauses → SharedLimit text marks places clauses (Some Clauses)
     unfolding shared_limit
     shared_clauses h = record { is = λ cs i e. let a : ltb 512 (length cs) ≡ true = lt-ltb 512 (length cs) (omega (arith, e)) in sym (rw a) }
 
@@ -105,7 +106,7 @@ module _ (text marks places : List ℕ) (even : length marks ≡ length places) 
       clauses_few : (cs : List Clause) → clauses ≡ length cs → ltb 512 (length cs) ≡ false
       clauses_few cs e = le-ltb 512 (length cs) (omega (arith, e))
 
-      pub shared_predicates : p ≡ true → SharedLimit text marks places clauses Predicates
+      pub shared_predicates : p ≡ true → SharedLimit text marks places clauses (Some Predicates)
       unfolding shared_limit
       shared_predicates t = record {
         is = λ cs i e.
@@ -117,7 +118,7 @@ module _ (text marks places : List ℕ) (even : length marks ≡ length places) 
         predicates-few : (cs : List Clause) → items_of text marks places ≡ clauses_items cs → ltb 4096 (length (predicates cs)) ≡ false
         predicates-few cs i = sym (predicates-are cs i) ∙ sym w ∙ g
 
-        pub shared_functions : q ≡ true → SharedLimit text marks places clauses Functions
+        pub shared_functions : q ≡ true → SharedLimit text marks places clauses (Some Functions)
         unfolding shared_limit
         shared_functions t = record {
           is = λ cs i e.
@@ -129,7 +130,7 @@ module _ (text marks places : List ℕ) (even : length marks ≡ length places) 
           functions-few : (cs : List Clause) → items_of text marks places ≡ clauses_items cs → ltb 4096 (length (functions cs)) ≡ false
           functions-few cs i = sym (functions-are cs i) ∙ sym x ∙ k
 
-          pub shared_total : 15996 < length marks → SharedLimit text marks places clauses Total
+          pub shared_total : 15996 < length marks → SharedLimit text marks places clauses (Some Total)
           unfolding shared_limit
           shared_total h = record {
             is = λ cs i e.
@@ -137,7 +138,7 @@ module _ (text marks places : List ℕ) (even : length marks ≡ length places) 
                 sym (rw (clauses_few cs e, predicates-few cs i, functions-few cs i, b));
           }
 
-          pub shared_nothing : length marks ≤ 15996 → SharedLimit text marks places clauses Nothing
+          pub shared_nothing : length marks ≤ 15996 → SharedLimit text marks places clauses None
           unfolding shared_limit
           shared_nothing h = record {
             is = λ cs i e.

@@ -1,7 +1,7 @@
 -- Where no limit is passed the table fits.
 use mathlib.Core.Bool.{Bool, true, false, cond}
 use mathlib.Core.List.{List, [], ◌∷◌, ◌++◌, append_assoc, append-nil}
-use mathlib.Core.Path.{◌≡◌, refl, sym, ◌∙◌}
+use mathlib.Core.Path.{◌≡◌, refl}
 use Prim.Native.Nat.{ℕ, zero, suc, ◌+◌, ◌≤◌, ◌<◌}
 use native.Mathlib.Omega.{arith}
 use borrow.Author.Tests.{ltb-false, le-leb}
@@ -24,12 +24,13 @@ use Rattle.tptp.proofs.OneClause.{clause_within}
 use Rattle.tptp.proofs.Splits.{clauses_long, split}
 use Rattle.tptp.proofs.Stages.{under_each}
 use Rattle.tptp.proofs.Trees.{Good, each_front, each_rest}
+use Rattle.std.specs.Prelude.{Option, Some, None}
 use Rattle.limits.specs.declared.find.Limit.{Limit}
-use Rattle.limits.specs.declared.find.Limit.TheVariants.{Nothing, Literals, Arguments, Variables, Words, Clauses, Predicates, Functions, Total}
+use Rattle.limits.specs.declared.find.Limit.TheVariants.{Literals, Arguments, Variables, Words, Clauses, Predicates, Functions, Total}
 use Rattle.limits.specs.Over.{most_parts, own_limit, shared_limit, or_else, is_nothing, Over, or_next, limit_with, first_over}
 use Rattle.limits.specs.Promises.{NothingPassed, OverIsTold}
 
-abbrev Passes : Limit → Type 0
+abbrev Passes : Option Limit → Type 0
 Passes l = is_nothing l ≡ true
 
 -- a row of four tests, none of which holds
@@ -42,13 +43,12 @@ record Under (a b c d : Bool) : Type 0 where
 never : {A : Type 0} → ◌≡◌ {A = Bool} false true → A
 never e = let z : ◌≡◌ {A = ℕ} 0 1 = cc in absurd (omega arith)
 
-under : (a b c d : Bool) (k l m n : Limit) → is_nothing k ≡ false → is_nothing l ≡ false → is_nothing m ≡ false → is_nothing n ≡ false
-    → Passes (cond a k (cond b l (cond c m (cond d n Nothing)))) → Under a b c d
-under true b c d k l m n f g h i e = never (sym f ∙ e)
-under false true c d k l m n f g h i e = never (sym g ∙ e)
-under false false true d k l m n f g h i e = never (sym h ∙ e)
-under false false false true k l m n f g h i e = never (sym i ∙ e)
-under false false false false k l m n f g h i e = record { first = refl; second = refl; third = refl; fourth = refl }
+under : (a b c d : Bool) (k l m n : Limit) → Passes (cond a (Some k) (cond b (Some l) (cond c (Some m) (cond d (Some n) None)))) → Under a b c d
+under true b c d k l m n e = never e
+under false true c d k l m n e = never e
+under false false true d k l m n e = never e
+under false false false true k l m n e = never e
+under false false false false k l m n e = record { first = refl; second = refl; third = refl; fourth = refl }
 
 record Own (ls : List Literal) : Type 0 where
   pub few : length ls ≤ 7
@@ -59,7 +59,7 @@ record Own (ls : List Literal) : Type 0 where
 own_within : (ls : List Literal) → Passes (own_limit ls) → Own ls
 unfolding own_limit
 own_within ls e =
-    let u = under (ltb 7 (length ls)) (ltb 4 (most_parts (literals_items ls))) (ltb 16 (length (variables ls))) (ltb 255 (length (literals_items ls))) Literals Arguments Variables Words refl refl refl refl e in
+    let u = under (ltb 7 (length ls)) (ltb 4 (most_parts (literals_items ls))) (ltb 16 (length (variables ls))) (ltb 255 (length (literals_items ls))) Literals Arguments Variables Words e in
     record {
       few = ltb-false 7 (length ls) u.first;
       narrow = ltb-false 4 (most_parts (literals_items ls)) u.second;
@@ -76,7 +76,7 @@ record Shared (cs : List Clause) : Type 0 where
 shared_within : (cs : List Clause) → Passes (shared_limit cs) → Shared cs
 unfolding shared_limit
 shared_within cs e =
-    let u = under (ltb 512 (length cs)) (ltb 4096 (length (predicates cs))) (ltb 4096 (length (functions cs))) (ltb 15996 (length (clauses_items cs))) Clauses Predicates Functions Total refl refl refl refl e in
+    let u = under (ltb 512 (length cs)) (ltb 4096 (length (predicates cs))) (ltb 4096 (length (functions cs))) (ltb 15996 (length (clauses_items cs))) Clauses Predicates Functions Total e in
     record {
       few = ltb-false 512 (length cs) u.first;
       predicates = ltb-false 4096 (length (predicates cs)) u.second;
@@ -85,27 +85,13 @@ shared_within cs e =
     }
 
 -- clause by clause
-both_pass : (a b : Limit) → Passes (or_else a b) → Passes a × Passes b
-both_pass Nothing b e = (refl, e)
-both_pass Literals b e = never e
-both_pass Arguments b e = never e
-both_pass Variables b e = never e
-both_pass Words b e = never e
-both_pass Clauses b e = never e
-both_pass Predicates b e = never e
-both_pass Functions b e = never e
-both_pass Total b e = never e
+both_pass : (a b : Option Limit) → Passes (or_else a b) → Passes a × Passes b
+both_pass None b e = (refl, e)
+both_pass (Some l) b e = never e
 
-next_pass : (l : Limit) (name : Name) (rest : Over) → Passes (or_next l name rest).limit → Passes l × Passes rest.limit
-next_pass Nothing name rest e = (refl, e)
-next_pass Literals name rest e = never e
-next_pass Arguments name rest e = never e
-next_pass Variables name rest e = never e
-next_pass Words name rest e = never e
-next_pass Clauses name rest e = never e
-next_pass Predicates name rest e = never e
-next_pass Functions name rest e = never e
-next_pass Total name rest e = never e
+next_pass : (l : Option Limit) (name : Name) (rest : Over) → Passes (or_next l name rest).limit → Passes l × Passes rest.limit
+next_pass None name rest e = (refl, e)
+next_pass (Some l) name rest e = never e
 
 abbrev OwnPasses : Clause → Type 0
 OwnPasses c = Passes (own_limit c.literals)
@@ -140,11 +126,11 @@ low_numbers : (uses : List Name) → length (first_uses uses) ≤ 4096 → Each 
 low_numbers uses h =
     each_mapped (λ (n : Name). number_in (first_uses uses) n < length (first_uses uses)) (λ (n : Name). number_in (first_uses uses) n < 4096) (λ n k. omega arith) uses (used_below [] uses)
 
-abbrev Some : Clause → Type 0
-Some c = 1 ≤ length c.literals
+abbrev SomeLiteral : Clause → Type 0
+SomeLiteral c = 1 ≤ length c.literals
 
 module _ (ps fs : List Name) where
-  each_within : (ds : List Clause) → Each OwnPasses ds → Each Some ds → Each (λ (n : Name). number_in ps n < 4096) (of_all predicate_uses ds) → Each (λ (n : Name). number_in fs n < 4096) (of_all function_uses ds)
+  each_within : (ds : List Clause) → Each OwnPasses ds → Each SomeLiteral ds → Each (λ (n : Name). number_in ps n < 4096) (of_all predicate_uses ds) → Each (λ (n : Name). number_in fs n < 4096) (of_all function_uses ds)
       → Each (λ (c : Clause). ClauseWithin (clause_said ps fs c.literals)) ds
   unfolding Each of_all
   each_within [] o s p f = tt

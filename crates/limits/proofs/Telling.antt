@@ -1,16 +1,15 @@
 -- What is said of a text that passes a limit, with premises as the code has them.
-use mathlib.Core.Bool.{Bool, true, false}
+use mathlib.Core.Bool.{Bool}
 use mathlib.Core.List.{List, [], ◌∷◌}
 use mathlib.Core.Path.{◌≡◌, refl, sym, ap, ◌∙◌}
 use Prim.Native.Nat.{ℕ, zero, suc, ◌≤◌, ◌<◌}
 use native.Mathlib.Omega.{arith}
 use denote.Ref.{Bor}
 use lib.ListN.{length, get_or, length-map}
-use Rattle.clausetext.specs.declared.judge.Verdict.{Verdict}
-use Rattle.clausetext.specs.declared.judge.Verdict.TheVariants.{Wrong}
+use Rattle.std.specs.Prelude.{Option, Some, None, Err}
 use Rattle.clausetext.specs.Judging.{judged}
 use Rattle.clausetext.specs.Syntax.{Clause}
-use Rattle.clausetext.specs.Texts.{Says, Permitted, Verdicts, fine}
+use Rattle.clausetext.specs.Texts.{Verdict, Says, Permitted, Verdicts, fine}
 use Rattle.clausetext.proofs.Judgement.{only_verdict}
 use Rattle.clausetext.proofs.OneReading.{one_reading}
 use Rattle.names.specs.Numbers.{Name}
@@ -22,54 +21,49 @@ use Rattle.text.specs.Put.{put, Put}
 use Rattle.text.specs.Quoted.{bytes}
 use Rattle.text.proofs.Putting.{begin, finish, then, same_size}
 use Rattle.limits.specs.declared.find.Limit.{Limit}
-use Rattle.limits.specs.declared.find.Limit.TheVariants.{Nothing, Literals, Arguments, Variables, Words, Clauses, Predicates, Functions, Total}
+use Rattle.limits.specs.declared.find.Limit.TheVariants.{Literals, Arguments, Variables, Words, Clauses, Predicates, Functions, Total}
 use Rattle.limits.specs.declared.find.Passed.{Passed}
-use Rattle.limits.specs.Over.{is_nothing, first_over}
-use Rattle.limits.specs.Counting.{Finds}
+use Rattle.limits.specs.Counting.{Found, Finds}
 use Rattle.limits.specs.Told.{limit_text, over_text, Told, NamePut, ClauseTold}
 
 module _ {l : Limit} {o o' : List ℕ} {n n' : ℕ} where
-  pub say_nothing : l ≡ Nothing → Put o n (bytes "\n") o' n' → Put o n (limit_text l) o' n'
-  unfolding limit_text
-  say_nothing e p = rw e p
-
-  pub say_literals : l ≡ Literals → Put o n (bytes " has more than 7 literals, the most that a clause may have\n") o' n' → Put o n (limit_text l) o' n'
+  pub say_literals : l ≡ Literals → Put o n (bytes " has more than 7 literals, the most that a clause may have\n") o' n' → Put o n (limit_text (Some l)) o' n'
   unfolding limit_text
   say_literals e p = rw e p
 
-  pub say_arguments : l ≡ Arguments → Put o n (bytes " has a predicate or a function with more than 4 arguments, the most that one may have\n") o' n' → Put o n (limit_text l) o' n'
+  pub say_arguments : l ≡ Arguments → Put o n (bytes " has a predicate or a function with more than 4 arguments, the most that one may have\n") o' n' → Put o n (limit_text (Some l)) o' n'
   unfolding limit_text
   say_arguments e p = rw e p
 
-  pub say_variables : l ≡ Variables → Put o n (bytes " has more than 16 variables, the most that a clause may have\n") o' n' → Put o n (limit_text l) o' n'
+  pub say_variables : l ≡ Variables → Put o n (bytes " has more than 16 variables, the most that a clause may have\n") o' n' → Put o n (limit_text (Some l)) o' n'
   unfolding limit_text
   say_variables e p = rw e p
 
   pub say_words : l ≡ Words
-      → Put o n (bytes " has more than 255 predicates, functions, constants and variables, each counted as often as it stands there\n") o' n' → Put o n (limit_text l) o' n'
+      → Put o n (bytes " has more than 255 predicates, functions, constants and variables, each counted as often as it stands there\n") o' n' → Put o n (limit_text (Some l)) o' n'
   unfolding limit_text
   say_words e p = rw e p
 
-  pub say_clauses : l ≡ Clauses → Put o n (bytes " is one clause too many: a table may have 512, with the question\n") o' n' → Put o n (limit_text l) o' n'
+  pub say_clauses : l ≡ Clauses → Put o n (bytes " is one clause too many: a table may have 512, with the question\n") o' n' → Put o n (limit_text (Some l)) o' n'
   unfolding limit_text
   say_clauses e p = rw e p
 
-  pub say_predicates : l ≡ Predicates → Put o n (bytes " has a predicate too many: a table may have 4096\n") o' n' → Put o n (limit_text l) o' n'
+  pub say_predicates : l ≡ Predicates → Put o n (bytes " has a predicate too many: a table may have 4096\n") o' n' → Put o n (limit_text (Some l)) o' n'
   unfolding limit_text
   say_predicates e p = rw e p
 
-  pub say_functions : l ≡ Functions → Put o n (bytes " has a function or constant too many: a table may have 4096\n") o' n' → Put o n (limit_text l) o' n'
+  pub say_functions : l ≡ Functions → Put o n (bytes " has a function or constant too many: a table may have 4096\n") o' n' → Put o n (limit_text (Some l)) o' n'
   unfolding limit_text
   say_functions e p = rw e p
 
   pub say_total : l ≡ Total
       → Put o n (bytes " makes the table too long: it may have 15996 words, one for each clause, predicate, function, constant and variable that stands there\n") o' n'
-      → Put o n (limit_text l) o' n'
+      → Put o n (limit_text (Some l)) o' n'
   unfolding limit_text
   say_total e p = rw e p
 
 pub ruleset say_laws =
-    (say_nothing, say_literals, say_arguments, say_variables, say_words, say_clauses, say_predicates, say_functions, say_total)
+    (say_literals, say_arguments, say_variables, say_words, say_clauses, say_predicates, say_functions, say_total)
 
 -- the name of a clause
 put_at : (out text : List ℕ) (n : ℕ) → n < length text → n < length out → get_or (put out 0 text) n 0 ≡ get_or text n 0
@@ -97,38 +91,32 @@ module _ (text : Bor (List ℕ)) {asked : Bool} {names names' : List ℕ} {n : �
 
 -- the line
 pub clause_told : (file text : List ℕ) {p : Passed} {o₀ o₁ o₂ o₃ o₄ : List ℕ} {n₀ n₁ n₂ n₃ n₄ : ℕ} → Put o₀ n₀ file o₁ n₁ → Put o₁ n₁ (bytes ": the clause ") o₂ n₂
-    → NamePut text p.asked p.number o₂ n₂ o₃ n₃ → Put o₃ n₃ (limit_text p.limit) o₄ n₄ → ClauseTold file text p o₀ n₀ o₄ n₄
+    → NamePut text p.asked p.number o₂ n₂ o₃ n₃ → Put o₃ n₃ (limit_text (Some p.limit)) o₄ n₄ → ClauseTold file text p o₀ n₀ o₄ n₄
 clause_told file text a b q r = record { put = λ cs y h. then (then (then a b) (q.put cs y h)) r }
 
 -- a permitted text is not wrong
 module _ {text : List ℕ} (short : length text ≤ 65536) (g : Permitted text) where
-  not-wrong : {A : Type 0} {place : ℕ} → Verdicts text (Wrong place) → A
+  not-wrong : {A : Type 0} {place : ℕ} → Verdicts text (Err place) → A
   not-wrong w = let a = only_verdict w in let b = only_verdict (fine short g.says) in let z : ◌≡◌ {A = ℕ} 0 1 = cc in absurd (omega arith)
 
-  module _ (file : List ℕ) {p : Passed} (f : Finds text p) {b : Bool} (n : b ≡ is_nothing p.limit) {o o' : List ℕ} {at end : ℕ} where
-    pub over_told : b ≡ false → ClauseTold file text p o at o' end → Told file text o at o' end
+  module _ (file : List ℕ) {r : Option Passed} (f : Finds text r) {o o' : List ℕ} {at end : ℕ} where
+    pub over_told : {p : Passed} → r ≡ Some p → ClauseTold file text p o at o' end → Told file text o at o' end
     unfolding over_text
-    over_told e t = record {
-      over = λ _ cs y.
-          let l : p.limit ≡ (first_over [] cs).limit = f.limit cs y in
-          let some : is_nothing p.limit ≡ false = sym n ∙ e in
-          let same : is_nothing (first_over [] cs).limit ≡ false = ap (λ (x : Limit). is_nothing x) (sym l) ∙ some in
-          rw (same, ← l, ← f.name cs y some) (t.put cs y (f.there cs y some));
+    over_told {p} e t = record {
+      over = λ _ cs y. let g : Found text p = rw e at f in rw (g.limit cs y, ← g.name cs y) (t.put cs y (g.there cs y));
       wrong = λ w. not-wrong w;
     }
 
-    pub none_told : b ≡ true → {mid : List ℕ} {next : ℕ} → Put o at file mid next → Put mid next (bytes ": the table passes no limit\n") o' end → Told file text o at o' end
+    pub none_told : r ≡ None → {mid : List ℕ} {next : ℕ} → Put o at file mid next → Put mid next (bytes ": the table passes no limit\n") o' end → Told file text o at o' end
     unfolding over_text
     none_told e a c = record {
-      over = λ _ cs y.
-          let same : is_nothing (first_over [] cs).limit ≡ true = ap (λ (x : Limit). is_nothing x) (sym (f.limit cs y)) ∙ sym n ∙ e in
-          rw same (then a c);
+      over = λ _ cs y. let g : Finds text None = rw e at f in rw (g cs y) (then a c);
       wrong = λ w. not-wrong w;
     }
 
 pub ruleset over_laws = (over_told, none_told)
 
-pub wrong_untold : (file text : List ℕ) {v : Verdict} → v ≡ judged text → {place : ℕ} → v ≡ Wrong place → {out : List ℕ} {at : ℕ} → Told file text out at out at
+pub wrong_untold : (file text : List ℕ) {v : Verdict} → v ≡ judged text → {place : ℕ} → v ≡ Err place → {out : List ℕ} {at : ℕ} → Told file text out at out at
 wrong_untold file text is e {out} {at} = record {
   over = λ short cs y. let o = only_verdict (fine short y) in let z : ◌≡◌ {A = ℕ} 0 1 = cc in absurd (omega arith);
   wrong = λ _. finish (begin out at []);

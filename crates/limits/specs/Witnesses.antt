@@ -1,8 +1,8 @@
 -- Limits on small texts: at each limit that a clause passes alone and one over it; of two clauses that pass one, the first; and 512 and 513 clauses.
-use Rattle.std.specs.Prelude.{false, List, [], ◌∷◌, ◌≡◌, ℕ, zero, suc, replicate}
+use Rattle.std.specs.Prelude.{false, List, [], ◌∷◌, ◌≡◌, ℕ, zero, suc, replicate, Some, None}
 use Rattle.clausetext.specs.Syntax.{Term, variable, application, Terms, nil, ◌then◌, Literal, Axiom, Clause}
 use Rattle.text.specs.Quoted.{bytes}
-use Rattle.limits.specs.declared.find.Limit.TheVariants.{Nothing, Literals, Arguments, Variables, Words, Clauses}
+use Rattle.limits.specs.declared.find.Limit.TheVariants.{Literals, Arguments, Variables, Words, Clauses}
 use Rattle.limits.specs.Over.{own_limit, shared_limit, first_over}
 use Rattle.limits.specs.Told.{over_text}
 
@@ -37,9 +37,9 @@ wide = named (bytes "wide") (said (application (bytes "f") (a then a then a then
 
 unfoldable pub LimitsTold : Type 0
 LimitsTold =
-    ((first_over [] (small ∷ small ∷ [])).limit ≡ Nothing)
-    × (first_over [] (small ∷ long ∷ wide ∷ []) ≡ record { limit = Literals; name = bytes "long" })
-    × (first_over [] (small ∷ wide ∷ long ∷ []) ≡ record { limit = Arguments; name = bytes "wide" })
+    ((first_over [] (small ∷ small ∷ [])).limit ≡ None)
+    × (first_over [] (small ∷ long ∷ wide ∷ []) ≡ record { limit = Some Literals; name = bytes "long" })
+    × (first_over [] (small ∷ wide ∷ long ∷ []) ≡ record { limit = Some Arguments; name = bytes "wide" })
     × (over_text (bytes "f") (first_over [] (long ∷ [])) ≡ bytes "f: the clause long has more than 7 literals, the most that a clause may have\n")
     × (over_text (bytes "f") (first_over [] (small ∷ [])) ≡ bytes "f: the table passes no limit\n")
 
@@ -54,15 +54,15 @@ sixteen =
 
 unfoldable pub LimitsExact : Type 0
 LimitsExact =
-    (own_limit seven ≡ Nothing)
-    × (own_limit (said nil ∷ seven) ≡ Literals)
-    × (own_limit (four a) ≡ Nothing)
-    × (own_limit (said (application (bytes "f") (a then a then a then a then nil) then nil) ∷ []) ≡ Nothing)
-    × (own_limit (said (a then a then a then a then a then nil) ∷ []) ≡ Arguments)
-    × (own_limit sixteen ≡ Nothing)
-    × (own_limit (said (x 17 then nil) ∷ sixteen) ≡ Variables)
-    × (own_limit (said (nested 253 then nil) ∷ []) ≡ Nothing)
-    × (own_limit (said (nested 254 then nil) ∷ []) ≡ Words)
+    (own_limit seven ≡ None)
+    × (own_limit (said nil ∷ seven) ≡ Some Literals)
+    × (own_limit (four a) ≡ None)
+    × (own_limit (said (application (bytes "f") (a then a then a then a then nil) then nil) ∷ []) ≡ None)
+    × (own_limit (said (a then a then a then a then a then nil) ∷ []) ≡ Some Arguments)
+    × (own_limit sixteen ≡ None)
+    × (own_limit (said (x 17 then nil) ∷ sixteen) ≡ Some Variables)
+    × (own_limit (said (nested 253 then nil) ∷ []) ≡ None)
+    × (own_limit (said (nested 254 then nil) ∷ []) ≡ Some Words)
 
 unfoldable pub ClausesExact : Type 0
-ClausesExact = (shared_limit (replicate 512 small) ≡ Nothing) × (shared_limit (replicate 513 small) ≡ Clauses)
+ClausesExact = (shared_limit (replicate 512 small) ≡ None) × (shared_limit (replicate 513 small) ≡ Some Clauses)

@@ -3,16 +3,14 @@ ghost use Rattle.std.specs.Prelude.{◌≡◌, ◌+◌, ◌%◌, ◌≤◌, ◌<
 ghost use Rattle.clausetext.specs.Texts.{Permitted};
 ghost use Rattle.tptp.specs.Shapes.{sort_kind};
 ghost use Rattle.tptp.specs.Body.{Held};
-ghost use Rattle.limits.specs.Over.{or_else, is_nothing};
 ghost use Rattle.limits.specs.Counting.{most_in, kind_words, more_than, OwnLimit, SharedLimit, LimitAt, passed_by, Finds};
 
 use names::table::number;
 use tptp::last::seek;
 use tptp::sketch::gather;
 
-#[derive(Clone, Copy)]
+#[derive(Clone, Copy, Debug, PartialEq, Eq)]
 pub enum Limit {
-    Nothing,
     Literals,
     Arguments,
     Variables,
@@ -24,7 +22,7 @@ pub enum Limit {
 }
 
 // A limit that is passed, by the so-many-th question or by the so-many-th of the other clauses.
-#[derive(Clone, Copy)]
+#[derive(Clone, Copy, Debug, PartialEq, Eq)]
 pub struct Passed {
     pub limit: Limit,
     pub asked: bool,
@@ -35,15 +33,8 @@ fn most_parts(marks: &[u32]) -> u32
     ensures { result ≡ most_in marks.now }
 {
     let mut most = 0;
-    let mut i = 0;
-    while i < marks.len() {
-        let parts = marks[i] / 8;
-        if most < parts {
-            most = parts;
-            i += 1;
-            continue;
-        }
-        i += 1;
+    for mark in marks {
+        most = most.max(*mark / 8);
     }
     most
 }
@@ -52,16 +43,12 @@ fn most_parts(marks: &[u32]) -> u32
 fn kind(sort: u32) -> u32
     ensures { (result ≡ sort_kind sort) × (result ≤ 3) }
 {
-    if sort == 0 {
-        return 0;
+    match sort {
+        0 => 0,
+        1 => 1,
+        2..=3 => 2,
+        _ => 3,
     }
-    if sort == 1 {
-        return 1;
-    }
-    if sort < 4 {
-        return 2;
-    }
-    3
 }
 
 // Words that have only a kind.
@@ -69,10 +56,8 @@ fn put_kinds(marks: &[u32], words: &mut [u32])
     requires { length marks.now ≡ length words.old }
     ensures { words.new ≡ kind_words marks.now }
 {
-    let mut i = 0;
-    while i < marks.len() {
-        words[i] = kind(marks[i] % 8) * 0x40000000;
-        i += 1;
+    for (i, mark) in marks.iter().enumerate() {
+        words[i] = kind(*mark % 8) * 0x40000000;
     }
 }
 
@@ -102,59 +87,43 @@ fn more_than(text: &[u8], marks: &[u32], places: &[u32], kind: u32, limit: usize
 }
 
 // The limit that a clause passes alone, by its own mark and the items after it.
-fn own_limit(text: &[u8], clause: u32, marks: &[u32], places: &[u32]) -> Limit
+fn own_limit(text: &[u8], clause: u32, marks: &[u32], places: &[u32]) -> Option<Limit>
     requires { (length marks.now ≡ length places.now) × (length marks.now ≤ 65536) }
     ensures { OwnLimit text.now clause marks.now places.now result }
 {
     if 7 < clause / 8 {
-        return Limit::Literals;
+        return Some(Limit::Literals);
     }
     if 4 < most_parts(marks) {
-        return Limit::Arguments;
+        return Some(Limit::Arguments);
     }
     if more_than(text, marks, places, 0, 16) {
-        return Limit::Variables;
+        return Some(Limit::Variables);
     }
     if 255 < marks.len() {
-        return Limit::Words;
+        return Some(Limit::Words);
     }
-    Limit::Nothing
+    None
 }
 
 // The limit that clauses pass together.
-fn shared_limit(text: &[u8], marks: &[u32], places: &[u32], clauses: usize) -> Limit
+fn shared_limit(text: &[u8], marks: &[u32], places: &[u32], clauses: usize) -> Option<Limit>
     requires { (length marks.now ≡ length places.now) × (length marks.now ≤ 65536) }
     ensures { SharedLimit text.now marks.now places.now clauses result }
 {
     if 512 < clauses {
-        return Limit::Clauses;
+        return Some(Limit::Clauses);
     }
     if more_than(text, marks, places, 2, 4096) {
-        return Limit::Predicates;
+        return Some(Limit::Predicates);
     }
     if more_than(text, marks, places, 1, 4096) {
-        return Limit::Functions;
+        return Some(Limit::Functions);
     }
     if 15996 < marks.len() {
-        return Limit::Total;
+        return Some(Limit::Total);
     }
-    Limit::Nothing
-}
-
-fn first(own: Limit, other: Limit) -> Limit
-    ensures { result ≡ or_else own other }
-{
-    match own {
-        Limit::Nothing => other,
-        Limit::Literals => Limit::Literals,
-        Limit::Arguments => Limit::Arguments,
-        Limit::Variables => Limit::Variables,
-        Limit::Words => Limit::Words,
-        Limit::Clauses => Limit::Clauses,
-        Limit::Predicates => Limit::Predicates,
-        Limit::Functions => Limit::Functions,
-        Limit::Total => Limit::Total,
-    }
+    None
 }
 
 // The limit passed by the clause whose items stand between two places, the last of so many.
@@ -165,30 +134,16 @@ fn limit_at(
     at: usize,
     end: usize,
     clauses: usize,
-) -> Limit
+) -> Option<Limit>
     requires { (length marks.now ≡ length places.now) × (length marks.now ≤ 65536) × (at + 1 ≤ end) × (end ≤ length marks.now) }
     ensures { LimitAt text.now marks.now places.now at end clauses result }
 {
     let from = at + 1;
     let own = own_limit(text, marks[at], &marks[from..end], &places[from..end]);
-    let shared = shared_limit(text, &marks[0..end], &places[0..end], clauses);
-    first(own, shared)
-}
-
-pub(crate) fn is_nothing(limit: Limit) -> bool
-    ensures { result ≡ is_nothing limit }
-{
-    match limit {
-        Limit::Nothing => true,
-        Limit::Literals => false,
-        Limit::Arguments => false,
-        Limit::Variables => false,
-        Limit::Words => false,
-        Limit::Clauses => false,
-        Limit::Predicates => false,
-        Limit::Functions => false,
-        Limit::Total => false,
+    if own.is_some() {
+        return own;
     }
+    shared_limit(text, &marks[0..end], &places[0..end], clauses)
 }
 
 // A question's mark.
@@ -201,22 +156,15 @@ fn asks(mark: u32) -> bool
 fn passing(limit: Limit, question: bool, stated: usize, asked: usize) -> Passed
     ensures { result ≡ passed_by limit question stated asked }
 {
-    if question {
-        return Passed {
-            limit,
-            asked: true,
-            number: asked,
-        };
-    }
     Passed {
         limit,
-        asked: false,
-        number: stated,
+        asked: question,
+        number: if question { asked } else { stated },
     }
 }
 
 // Clause by clause.
-fn find_in(text: &[u8], marks: &[u32], places: &[u32]) -> Passed
+fn find_in(text: &[u8], marks: &[u32], places: &[u32]) -> Option<Passed>
     requires { (length marks.now ≡ length places.now) × (length marks.now ≤ 65536) × Held text.now marks.now places.now }
     ensures { Finds text.now result }
 {
@@ -226,26 +174,21 @@ fn find_in(text: &[u8], marks: &[u32], places: &[u32]) -> Passed
     while at < marks.len() {
         let question = asks(marks[at]);
         let end = seek(marks, at + 1, 4);
-        let limit = limit_at(text, marks, places, at, end, stated + asked + 1);
-        if !is_nothing(limit) {
-            return passing(limit, question, stated, asked);
+        if let Some(limit) = limit_at(text, marks, places, at, end, stated + asked + 1) {
+            return Some(passing(limit, question, stated, asked));
         }
         at = end;
         if question {
             asked += 1;
-            continue;
+        } else {
+            stated += 1;
         }
-        stated += 1;
     }
-    Passed {
-        limit: Limit::Nothing,
-        asked: false,
-        number: 0,
-    }
+    None
 }
 
 // The first limit that a text passes.
-pub(crate) fn find(text: &[u8]) -> Passed
+pub(crate) fn find(text: &[u8]) -> Option<Passed>
     requires { (length text.now ≤ 65536) × Permitted text.now }
     ensures { Finds text.now result }
 {

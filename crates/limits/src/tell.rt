@@ -4,17 +4,16 @@ ghost use Rattle.clausetext.specs.Texts.{Permitted};
 ghost use Rattle.text.specs.Put.{Put};
 ghost use Rattle.limits.specs.Told.{limit_text, NamePut, ClauseTold, Told};
 
-use crate::find::{Limit, Passed, find, is_nothing};
-use clausetext::judge::{Verdict, judge_text};
+use crate::find::{Limit, Passed, find};
+use clausetext::judge::judge_text;
 use naming::clauses::put_names;
 use naming::lookup;
 use text::put;
 
 fn reason(out: &mut [u8], at: usize, limit: Limit) -> usize
-    ensures { Put out.old at (limit_text limit) out.new result }
+    ensures { Put out.old at (limit_text (Some limit)) out.new result }
 {
     match limit {
-        Limit::Nothing => put::bytes(out, at, b"\n"),
         Limit::Literals => put::bytes(
             out,
             at,
@@ -74,33 +73,32 @@ fn clause_text(out: &mut [u8], at: usize, file: &[u8], text: &[u8], p: Passed) -
     requires { (length text.now ≤ 65536) × Permitted text.now × (p.number < 65536) }
     ensures { ClauseTold file.now text.now p out.old at out.new result }
 {
-    let limit = p.limit;
     let a = put::bytes(out, at, file);
     let b = put::bytes(out, a, b": the clause ");
     let c = put_name(out, b, text, p.asked, p.number);
-    reason(out, c, limit)
+    reason(out, c, p.limit)
 }
 
 fn over_text(out: &mut [u8], at: usize, file: &[u8], text: &[u8]) -> usize
     requires { (length text.now ≤ 65536) × Permitted text.now }
     ensures { Told file.now text.now out.old at out.new result }
 {
-    let p = find(text);
-    let limit = p.limit;
-    if is_nothing(limit) {
-        let a = put::bytes(out, at, file);
-        return put::bytes(out, a, b": the table passes no limit\n");
+    match find(text) {
+        Some(p) => clause_text(out, at, file, text, p),
+        None => {
+            let a = put::bytes(out, at, file);
+            put::bytes(out, a, b": the table passes no limit\n")
+        }
     }
-    clause_text(out, at, file, text, p)
 }
 
 // 19: the clause and the limit that it passes; nothing is written of a text that cannot be read.
+
 pub fn over(out: &mut [u8], at: usize, file: &[u8], text: &[u8]) -> usize
     ensures { Told file.now text.now out.old at out.new result }
 {
-    let verdict = judge_text(text);
-    match verdict {
-        Verdict::Wrong(_) => at,
-        Verdict::Fine(_, _) => over_text(out, at, file, text),
+    match judge_text(text) {
+        Err(_) => at,
+        Ok(_) => over_text(out, at, file, text),
     }
 }

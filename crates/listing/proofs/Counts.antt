@@ -1,12 +1,9 @@
 -- The copies counted step by step, one law for each outcome, with premises as the code has them.
 use borrow.Author.Tests.{eq-eqb, ne_eqb}
-use denote.Enum.Declared.{tag_of}
-use types.Run.{OneOf}
 use lib.ListN.{length, drop, get_or, set, replicate, length-set, length-replicate, drop_of_length-le}
 use lib.Seq.{drop-cons}
 use mathlib.Core.Bool.{false}
 use mathlib.Core.List.{List, [], ◌∷◌, map}
-use mathlib.Core.Logic.{inl, inr}
 use mathlib.Core.Path.{◌≡◌, refl, sym, ap, ◌∙◌}
 use mir.Syntax.{w32}
 use mir.Val.{Fits}
@@ -17,7 +14,6 @@ use Prim.Native.Nat.{ℕ, zero, suc, ◌+◌, ◌≤◌, ◌<◌}
 use Rattle.words.specs.Steps.{step_of}
 use Rattle.words.specs.declared.Step.{Step}
 use Rattle.words.specs.declared.Step.TheVariants.{Reduction, Extension, Restart, Malformed}
-use Rattle.words.specs.contracts.Step.{the_type as steps}
 use Rattle.engine.proofs.Checker.Steps.{small_clause}
 use Rattle.listing.specs.Behind.{copied_by}
 use Rattle.listing.specs.Counting.{Counted}
@@ -58,12 +54,10 @@ set_elsewhere (x ∷ xs) (suc i) zero v n = refl
 set_elsewhere (x ∷ xs) (suc i) (suc j) v n = set_elsewhere xs i j v (λ e. n (ap suc e))
 
 -- a step that copies no clause
-copies_none : (s : Step) (ss : List Step) (number : ℕ) → OneOf (0 ∷ 2 ∷ 3 ∷ []) (tag_of steps s) → copied_by (s ∷ ss) number ≡ copied_by ss number
+copies_none : (s : Step) (ss : List Step) (number : ℕ) → ((clause literal : ℕ) → s ≡ Extension clause literal → ⊥) → copied_by (s ∷ ss) number ≡ copied_by ss number
 unfolding copied_by
 copies_none (Reduction height) ss number h = refl
-copies_none (Extension clause literal) ss number (inl e) = let z : ◌≡◌ {A = ℕ} 0 1 = cc in absurd (omega arith)
-copies_none (Extension clause literal) ss number (inr (inl e)) = let z : ◌≡◌ {A = ℕ} 1 2 = e in absurd (omega arith)
-copies_none (Extension clause literal) ss number (inr (inr e)) = let z : ◌≡◌ {A = ℕ} 1 3 = e in absurd (omega arith)
+copies_none (Extension clause literal) ss number h = absurd (h clause literal refl)
 copies_none Restart ss number h = refl
 copies_none Malformed ss number h = refl
 
@@ -82,7 +76,7 @@ module _ (offered copies : List ℕ) (i : ℕ) (g : Counting offered i copies) (
   this-step = ap (λ (ws : List ℕ). map step_of ws) (drop-cons offered i 0 h) ∙ rw (add-one i)
 
   module _ {s : Step} (e : s ≡ step_of (get_or offered i 0)) where
-    pub count_past : OneOf (0 ∷ 2 ∷ 3 ∷ []) (tag_of steps s) → Counting offered (i + 1) copies
+    pub count_past : ((clause literal : ℕ) → s ≡ Extension clause literal → ⊥) → Counting offered (i + 1) copies
     count_past none =
         record {
           within = omega arith;

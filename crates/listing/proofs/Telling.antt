@@ -1,5 +1,5 @@
 -- What the call says, one law for each outcome, with premises as the code has them.
-use borrow.Author.Tests.{eq-eqb, ne_eqb, eqb-true, not-true, not-false}
+use borrow.Author.Tests.{eqb-true, not-true, not-false}
 use lib.Dec.{eqb}
 use lib.ListN.{length, get_or, length-append, length-map}
 use mathlib.Core.Bool.{Bool, true, false, not, ◌||◌}
@@ -37,15 +37,6 @@ use Rattle.listing.specs.Lines.{line_text, lines_text, listing_text}
 use Rattle.listing.specs.Call.{ListingAsked, check_of, accepts, after_check, listing_call}
 use Rattle.listing.specs.Counting.{Counted, counted_text}
 use Rattle.listing.proofs.Checked.{found_accepted, closed, limits}
-
--- the checker's statuses that accept
-pub accepts_done : (status : ℕ) → status ≡ 0 → true ≡ accepts status
-accepts_done status e = rw (eq-eqb status 0 e)
-
-pub accepts_other : (status : ℕ) → (status ≡ 0 → ⊥) → eqb status 16 ≡ accepts status
-accepts_other status n = rw (ne_eqb status 0 n)
-
-pub ruleset accept_laws = (accepts_done, accepts_other)
 
 -- The listing is short: a line has at most 4,397 bytes, and there are at most 512.
 line_short : (question : Bool) (l : Listed) → ClauseWithin l.clause → length (line_text question l) ≤ 4397

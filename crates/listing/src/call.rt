@@ -18,10 +18,7 @@ use words::fields;
 fn accepts(status: u32) -> bool
     ensures { result ≡ accepts status }
 {
-    if status == status::DONE {
-        return true;
-    }
-    status == status::ANSWER_TOO_LONG
+    status == status::DONE || status == status::ANSWER_TOO_LONG
 }
 
 // The lines are counted first, and written if they fit.

@@ -10,11 +10,8 @@ pub fn count(offered: &[u32], copies: &mut [u32])
     requires { (length offered.now ≤ 199) × (copies.old ≡ replicate 512 0) }
     ensures { Counted (map step_of offered.now) copies.new }
 {
-    let mut i = 0;
-    while i < offered.len() {
-        let step = steps::decode(offered[i]);
-        i += 1;
-        let Step::Extension(clause, _) = step else {
+    for word in offered {
+        let Step::Extension(clause, _) = steps::decode(*word) else {
             continue;
         };
         let number = fields::wide(clause);

@@ -5,28 +5,27 @@ use mathlib.Core.Path.{◌≡◌, refl, sym, ap, ◌∙◌}
 use Prim.Native.Nat.{ℕ, zero, suc, ◌+◌, ◌-◌, max, ◌≤◌, ◌<◌}
 use native.Mathlib.Numerals.{add-one}
 use native.Mathlib.Omega.{arith}
-use borrow.Author.Tests.{eqb-true, eqb-false, eq-eqb, ne_eqb, leb-true, leb-false, not-true, not-false}
+use borrow.Author.Tests.{eqb-true, eqb-false, eq-eqb, ne_eqb, leb-true, leb-false}
 use lib.Dec.{eqb, leb}
-use lib.ListN.{length, get_or, set, length-append}
-use lib.Seq.{append_snoc, get_or-set_same, get_or-set_other}
+use lib.ListN.{length, drop, get_or, set, length-append, drop_of_length-le}
+use lib.Seq.{append_snoc, drop-cons, get_or-set_same, get_or-set_other}
 use Rattle.names.specs.Numbers.{Name, number_in}
-use Rattle.names.specs.Noting.{name_byte, name_at}
+use Rattle.names.specs.Noting.{name_at}
 use Rattle.names.specs.Tree.{spelt, mark_at, Tree, Grown, Onward, Entered}
 use Rattle.names.specs.Marks.{Marks, Marked, Used}
 use Rattle.names.proofs.Notes.{number_within, noted_known, noted_new, name_of, absent_at}
-use Rattle.names.proofs.Same.{no_name, name_over, name_on}
 use Rattle.names.proofs.Stems.{spelt_root, apart, spelt_kept, tree_kept}
 
 -- the bytes so far lead to a stem, and those from here on make up the name
-pub record Entering (text m : List ℕ) (count name : ℕ) (m' : List ℕ) (stem stems i : ℕ) : Type 0 where
+pub record Entering (m own : List ℕ) (count : ℕ) (m' : List ℕ) (stem stems i : ℕ) : Type 0 where
   pub grown : Grown m count m' stems
   pub inside : stem ≤ stems
-  pub slowly : stems + length (name_at text i) ≤ count + length (name_at text name)
-  pub spells : spelt m' stems stem ++ name_at text i ≡ name_at text name
-  pub room : count + length (name_at text name) ≤ 65536
+  pub slowly : stems + length (drop i own) ≤ count + length own
+  pub spells : spelt m' stems stem ++ drop i own ≡ own
+  pub room : count + length own ≤ 65536
 
-module _ {text m : List ℕ} {count name : ℕ} where
-  pub begin_entering : Tree m count → count + length (name_at text name) ≤ 65536 → Entering text m count name m 0 count name
+module _ {m own : List ℕ} {count : ℕ} where
+  pub begin_entering : Tree m count → count + length own ≤ 65536 → Entering m own count m 0 count 0
   begin_entering t r = record {
     grown = record { tree = t; more = omega arith; kept = λ s h. refl; marks = λ s. refl };
     inside = omega arith;
@@ -35,48 +34,41 @@ module _ {text m : List ℕ} {count name : ℕ} where
     room = r;
   }
 
-module _ {text m : List ℕ} {count name : ℕ} {m' : List ℕ} {stem stems i : ℕ} (inv : Entering text m count name m' stem stems i) where
-  done : name_at text i ≡ [] → Entered text m count name m' stem stems
-  done e = record {
-    grown = inv.grown;
-    slowly = omega (arith, inv.slowly);
-    inside = inv.inside;
-    spells = sym (append-nil (spelt m' stems stem)) ∙ (rw e at inv.spells);
-  }
+module _ {text m own : List ℕ} {count name : ℕ} (is : own ≡ name_at text name) {m' : List ℕ} {stem stems i : ℕ} (inv : Entering m own count m' stem stems i) where
+  pub entered_end : length own ≤ i → Entered text m count name m' stem stems
+  entered_end h =
+      let none : drop i own ≡ [] = drop_of_length-le own h in
+      record {
+        grown = inv.grown;
+        slowly = omega (arith, inv.slowly, ap length is);
+        inside = inv.inside;
+        spells = sym (append-nil (spelt m' stems stem)) ∙ (rw none at inv.spells) ∙ is;
+      }
 
-  pub entered_end : length text ≤ i → Entered text m count name m' stem stems
-  entered_end h = done (no_name text i h)
+module _ {m own : List ℕ} {count : ℕ} {m' : List ℕ} {stem stems i : ℕ} (inv : Entering m own count m' stem stems i) (h : i < length own) where
+  goes : drop i own ≡ get_or own i 0 ∷ drop (i + 1) own
+  goes = rw (add-one i) (drop-cons own i 0 h)
 
-  module _ (h : i < length text) {on : Bool} (p : on ≡ name_byte (get_or text i 0)) where
-    pub entered_over : on ≡ false → Entered text m count name m' stem stems
-    entered_over e = done (name_over text i h (sym p ∙ e))
+  left : stems + suc (length (drop (i + 1) own)) ≤ count + length own
+  left = rw goes at inv.slowly
 
-    module _ (e : on ≡ true) where
-      goes : name_at text i ≡ get_or text i 0 ∷ name_at text (i + 1)
-      goes = name_on text i h (sym p ∙ e)
+  pub entering_room : stems < 65536
+  entering_room = omega (arith, left, inv.room)
 
-      left : stems + suc (length (name_at text (i + 1))) ≤ count + length (name_at text name)
-      left = rw goes at inv.slowly
-
-      pub entering_room : stems < 65536
-      entering_room = omega (arith, left, inv.room)
-
-      pub entering_on : {m'' : List ℕ} {r : ℕ} → Onward m' stems stem (get_or text i 0) m'' r
-          → {stems' : ℕ} → stems' ≡ max stems r → Entering text m count name m'' r stems' (i + 1)
-      entering_on {m''} {r = r} o q = rw q (record {
-        grown = record {
-          tree = o.grown.tree;
-          more = omega (arith, inv.grown.more);
-          kept = λ s g. o.grown.kept s (omega (arith, inv.grown.more)) ∙ inv.grown.kept s g;
-          marks = λ s. o.grown.marks s ∙ inv.grown.marks s;
-        };
-        inside = omega arith;
-        slowly = omega (arith, left, o.next);
-        spells = rw o.name (append_snoc (spelt m' stems stem) (get_or text i 0) (name_at text (i + 1)) ∙ (rw goes at inv.spells));
-        room = inv.room;
-      })
-
-pub ruleset entering_laws = (begin_entering, entered_end, entered_over, entering_room, entering_on, not-true, not-false)
+  pub entering_on : {m'' : List ℕ} {r : ℕ} → Onward m' stems stem (get_or own i 0) m'' r
+      → {stems' : ℕ} → stems' ≡ max stems r → Entering m own count m'' r stems' (i + 1)
+  entering_on {m''} {r = r} o q = rw q (record {
+    grown = record {
+      tree = o.grown.tree;
+      more = omega (arith, inv.grown.more);
+      kept = λ s g. o.grown.kept s (omega (arith, inv.grown.more)) ∙ inv.grown.kept s g;
+      marks = λ s. o.grown.marks s ∙ inv.grown.marks s;
+    };
+    inside = omega arith;
+    slowly = omega (arith, left, o.next);
+    spells = rw o.name (append_snoc (spelt m' stems stem) (get_or own i 0) (drop (i + 1) own) ∙ (rw goes at inv.spells));
+    room = inv.room;
+  })
 
 -- the names in front, and the one behind
 front : (names more : List Name) (n : ℕ) → n < length names → get_or (names ++ more) n [] ≡ get_or names n []

@@ -1,13 +1,17 @@
--- The same name, and where a name ends, with premises as the code has them.
-use mathlib.Core.Bool.{Bool, true, false, not}
+-- The bytes of the name at a place, and the same name.
+use mathlib.Core.Bool.{Bool, true, false, cond, ◌&&◌}
 use mathlib.Core.List.{List, [], ◌∷◌}
-use mathlib.Core.Path.{◌≡◌, refl, sym, ◌∙◌}
+use mathlib.Core.Path.{◌≡◌, refl, sym, ap, ◌∙◌}
 use Prim.Native.Nat.{ℕ, suc, ◌+◌, ◌-◌, ◌≤◌, ◌<◌}
 use native.Mathlib.Numerals.{add-one}
 use native.Mathlib.Omega.{arith}
-use borrow.Author.Tests.{eq-eqb, ne_eqb, not-true, not-false}
-use lib.ListN.{length, get_or, drop_of_length-le}
-use lib.Seq.{drop-cons}
+use lib.Dec.{eqb}
+use lib.ListN.{length, take, drop, get_or, length-drop, drop_of_length-le}
+use lib.Seq.{drop-cons, take_all, length-take-le}
+use Rattle.std.proofs.Common.{nat_eq}
+use Rattle.std.specs.Cmp.Lexicographic.{pointwise}
+use Rattle.clausetext.specs.Lexemes.{word_length}
+use Rattle.clausetext.proofs.Lexing.{word_within}
 use Rattle.names.specs.Numbers.{Name, same_name}
 use Rattle.names.specs.Noting.{name_byte, name_from, name_at}
 
@@ -25,82 +29,36 @@ module _ (text : List ℕ) (at : ℕ) where
   unfolding name_from
   name_on h e = rw (add-one at, drop-cons text at 0 h, e)
 
--- no name goes on at a place
-first_byte : (text : List ℕ) (at : ℕ) → at < length text → (on : Bool) → name_byte (get_or text at 0) ≡ on → not on ≡ same_name [] (name_at text at)
+-- a name is the longest run of its bytes
+pub run_taken : (text : List ℕ) → name_from text ≡ take (word_length text) text
+unfolding name_from word_length
+run_taken [] = refl
+run_taken (c ∷ cs) = go (name_byte c) (run_taken cs)
+  where
+    go : (on : Bool) → name_from cs ≡ take (word_length cs) cs
+        → cond on (c ∷ name_from cs) [] ≡ take (cond on (suc (word_length cs)) 0) (c ∷ cs)
+    go true ih = ap (λ (l : List ℕ). c ∷ l) ih
+    go false ih = refl
+
+pub rest_is : (text : List ℕ) (place : ℕ) → take (length text - place) (drop place text) ≡ drop place text
+rest_is text place = take_all (length text - place) (drop place text) (omega (arith, length-drop place text))
+
+module _ (text : List ℕ) (place : ℕ) {n : ℕ} (is : n ≡ word_length (take (length text - place) (drop place text))) where
+  pub name_taken : take n (take (length text - place) (drop place text)) ≡ name_at text place
+  name_taken = rw (is, rest_is text place) (sym (run_taken (drop place text)))
+
+  pub name_within : n ≡ length (take n (take (length text - place) (drop place text)))
+  name_within =
+      let rest = take (length text - place) (drop place text) in
+      sym (length-take-le n rest (omega (arith, is, word_within rest)))
+
+-- names are compared as their bytes are
+pub same_bytes : (a b : Name) → pointwise nat_eq a b ≡ same_name a b
 unfolding same_name
-first_byte text at h true e = rw (name_on text at h e)
-first_byte text at h false e = rw (name_over text at h e)
+same_bytes [] [] = refl
+same_bytes [] (d ∷ ds) = refl
+same_bytes (c ∷ cs) [] = refl
+same_bytes (c ∷ cs) (d ∷ ds) = ap (λ (t : Bool). eqb c d && t) (same_bytes cs ds)
 
-pub ends_at : (text : List ℕ) (at : ℕ) {on : Bool} → at < length text → on ≡ name_byte (get_or text at 0) → not on ≡ same_name [] (name_at text at)
-ends_at text at {on} h e = first_byte text at h on (sym e)
-
-pub ends_after : (text : List ℕ) (at : ℕ) → length text ≤ at → true ≡ same_name [] (name_at text at)
-unfolding same_name
-ends_after text at h = rw (no_name text at h)
-
--- a name that begins with another byte
-begins_so : (text : List ℕ) (j c : ℕ) (more : Name) → j < length text → (get_or text j 0 ≡ c → ⊥)
-    → (on : Bool) → name_byte (get_or text j 0) ≡ on → false ≡ same_name (c ∷ more) (name_at text j)
-unfolding same_name
-begins_so text j c more g d true k = rw (name_on text j g k, ne_eqb c (get_or text j 0) (λ q. d (sym q)))
-begins_so text j c more g d false k = rw (name_over text j g k)
-
--- the comparison of two names byte by byte: what is left decides
-pub record Alike (text : List ℕ) (one other i j : ℕ) : Type 0 where
-  pub left : same_name (name_at text one) (name_at text other) ≡ same_name (name_at text i) (name_at text j)
-
-module _ {text : List ℕ} {one other : ℕ} where
-  pub begin_alike : Alike text one other one other
-  begin_alike = record { left = refl }
-
-  module _ {i j : ℕ} (inv : Alike text one other i j) (h : i < length text) {on : Bool} (p : on ≡ name_byte (get_or text i 0)) where
-    pub alike_over : on ≡ false → {r : Bool} → r ≡ same_name [] (name_at text j) → r ≡ same_name (name_at text one) (name_at text other)
-    alike_over e q = rw (inv.left, name_over text i h (sym p ∙ e)) q
-
-    module _ (e : on ≡ true) where
-      pub other_over : length text ≤ j → false ≡ same_name (name_at text one) (name_at text other)
-      unfolding same_name
-      other_over g = rw (inv.left, name_on text i h (sym p ∙ e), no_name text j g)
-
-      pub other_byte : j < length text → (get_or text j 0 ≡ get_or text i 0 → ⊥) → false ≡ same_name (name_at text one) (name_at text other)
-      other_byte g d =
-          rw (inv.left, name_on text i h (sym p ∙ e)) (begins_so text j (get_or text i 0) (name_at text (i + 1)) g d (name_byte (get_or text j 0)) refl)
-
-      pub byte_alike : j < length text → get_or text j 0 ≡ get_or text i 0 → Alike text one other (i + 1) (j + 1)
-      unfolding same_name
-      byte_alike g q =
-          let k : name_byte (get_or text j 0) ≡ true = rw q (sym p ∙ e) in
-          record { left = inv.left ∙ rw (name_on text i h (sym p ∙ e), name_on text j g k, q, eq-eqb (get_or text i 0) (get_or text i 0) refl) }
-
-  pub alike_end : {i j : ℕ} → Alike text one other i j → length text ≤ i → {r : Bool} → r ≡ same_name [] (name_at text j)
-      → r ≡ same_name (name_at text one) (name_at text other)
-  alike_end {i} inv h q = rw (inv.left, no_name text i h) q
-
-pub ruleset same_laws = (begin_alike, alike_over, other_over, other_byte, byte_alike, alike_end, not-true, not-false)
-
--- the bytes of a name, counted up to a place
-pub record Counted (text : List ℕ) (at i : ℕ) : Type 0 where
-  pub later : at ≤ i
-  pub left : length (name_at text at) + at ≡ i + length (name_at text i)
-
-module _ {text : List ℕ} {at : ℕ} where
-  pub begin_counted : Counted text at at
-  begin_counted = record { later = omega arith; left = omega arith }
-
-  module _ {i : ℕ} (inv : Counted text at i) where
-    pub counted_end : length text ≤ i → i - at ≡ length (name_at text at)
-    counted_end h = let none : length (name_at text at) + at ≡ i + 0 = rw (no_name text i h) at inv.left in omega (arith, inv.later)
-
-    module _ (h : i < length text) {on : Bool} (p : on ≡ name_byte (get_or text i 0)) where
-      pub counted_over : on ≡ false → i - at ≡ length (name_at text at)
-      counted_over e = let none : length (name_at text at) + at ≡ i + 0 = rw (name_over text i h (sym p ∙ e)) at inv.left in omega (arith, inv.later)
-
-      pub counted_on : on ≡ true → Counted text at (i + 1)
-      counted_on e =
-          let more : length (name_at text at) + at ≡ i + suc (length (name_at text (i + 1))) = rw (name_on text i h (sym p ∙ e)) at inv.left in
-          record { later = omega (arith, inv.later); left = omega arith }
-
-    pub counted_less : at ≤ i
-    counted_less = inv.later
-
-pub ruleset counted_laws = (begin_counted, counted_end, counted_over, counted_on, counted_less, not-true, not-false)
+pub same_names : {a b x y : Name} {r : Bool} → a ≡ x → b ≡ y → r ≡ pointwise nat_eq a b → r ≡ same_name x y
+same_names {x = x} {y = y} e f q = q ∙ rw (e, f) (same_bytes x y)

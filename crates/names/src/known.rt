@@ -1,35 +1,33 @@
 // Names looked through one by one: for a few names.
-ghost use Rattle.std.specs.Prelude.{◌≡◌, ◌≤◌, ◌<◌, length};
+ghost use Rattle.std.specs.Prelude.{◌≡◌, ◌≤◌, ◌<◌, length, IfSome, unwrap_or};
 ghost use Rattle.names.specs.Numbers.{number_in};
-ghost use Rattle.names.specs.Noting.{name_at, Numbering};
-ghost use Rattle.names.specs.Known.{grown, known_at, Noted};
+ghost use Rattle.names.specs.Noting.{name_at, names_at, Numbering};
+ghost use Rattle.names.specs.Known.{grown, Noted};
 
 use crate::name;
 use words::fields;
 use words::fields::wide;
 
-// The number of the name at a place among the names known; how many are known where it is not among them.
-fn find(text: &[u8], places: &[u32], count: usize, name: usize) -> usize
-    requires { count ≤ length places.now }
-    ensures { result ≡ number_in (known_at text.now places.now count) (name_at text.now name) }
+// The number of the name at a place among the names known, by the places where they are first used.
+fn find(text: &[u8], known: &[u32], name: usize) -> Option<usize>
+    ensures within { IfSome result (λ number. number < length known.now) }
+    ensures is { unwrap_or result (length known.now) ≡ number_in (names_at text.now known.now) (name_at text.now name) }
 {
-    let mut n = 0;
-    while n < count {
-        if name::same(text, wide(places[n]), name) {
-            return n;
+    for (n, place) in known.iter().enumerate() {
+        if name::same(text, wide(*place), name) {
+            return Some(n);
         }
-        n += 1;
     }
-    count
+    None
 }
 
 // The number of the name at a place, which is known from now on.
+#[tactic(auto, using(crate::proofs::Looking::note_known, crate::proofs::Looking::note_new))]
 fn note(text: &[u8], places: &mut [u32], count: usize, name: u32) -> usize
     requires { count < length places.old }
     ensures { Noted text.now places.old count name places.new result }
 {
-    let number = find(text, places, count, wide(name));
-    if number < count {
+    if let Some(number) = find(text, &places[..count], wide(name)) {
         return number;
     }
     places[count] = name;
@@ -47,7 +45,7 @@ pub(crate) fn grown(count: usize, number: usize) -> usize
     count
 }
 
-// Adds to each word of a kind the number of its name.
+// Adds to each word of a kind the number of its name. Apart from tree::number, since what is known is noted and proved otherwise there.
 pub(crate) fn number(
     text: &[u8],
     starts: &[u32],
@@ -60,20 +58,17 @@ pub(crate) fn number(
     ensures { Numbering text.now starts.now words.old kind limit words.new result }
 {
     let mut count = 0;
-    let mut i = 0;
-    while i < words.len() {
+    for (i, start) in starts.iter().enumerate() {
         let w = words[i];
-        if fields::kind(w) == kind {
-            let n = note(text, places, count, starts[i]);
-            if limit <= n {
-                return limit + 1;
-            }
-            words[i] = name::with_number(w, n);
-            count = grown(count, n);
-            i += 1;
+        if fields::kind(w) != kind {
             continue;
         }
-        i += 1;
+        let n = note(text, places, count, *start);
+        if limit <= n {
+            return limit + 1;
+        }
+        words[i] = name::with_number(w, n);
+        count = grown(count, n);
     }
     count
 }

@@ -1,63 +1,35 @@
 // A name in a text, told by the place where it begins.
-ghost use Rattle.std.specs.Prelude.{◌≡◌, [], ◌+◌, ◌<◌, length};
+ghost use Rattle.std.specs.Prelude.{◌≡◌, ◌+◌, ◌<◌, length};
 ghost use Rattle.words.specs.Fields.{kind_of};
 ghost use Rattle.names.specs.Numbers.{same_name};
-ghost use Rattle.names.specs.Noting.{name_byte, name_at};
+ghost use Rattle.names.specs.Noting.{name_at};
 
-use clausetext::kind;
+use clausetext::token;
 
-// Names go on in letters, digits and `_`.
-pub(crate) fn goes_on(c: u8) -> bool
-    ensures { result ≡ name_byte c }
+// The bytes of the name at a place; none where no name stands there.
+pub fn at(text: &[u8], place: usize) -> &[u8]
+    ensures { result.now ≡ name_at text.now place }
 {
-    kind::goes_on(kind::kind_of(c))
-}
-
-// No name goes on at a place.
-fn ends(text: &[u8], at: usize) -> bool
-    ensures { result ≡ same_name [] (name_at text.now at) }
-{
-    if at < text.len() {
-        return !goes_on(text[at]);
+    if text.len() <= place {
+        return &text[0..0];
     }
-    true
+    let rest = &text[place..];
+    let length = token::word_length(rest);
+    &rest[..length]
 }
 
 // The names at two places are the same.
 pub(crate) fn same(text: &[u8], one: usize, other: usize) -> bool
     ensures { result ≡ same_name (name_at text.now one) (name_at text.now other) }
 {
-    let mut i = one;
-    let mut j = other;
-    while i < text.len() {
-        let c = text[i];
-        if !goes_on(c) {
-            return ends(text, j);
-        }
-        if text.len() <= j {
-            return false;
-        }
-        if text[j] != c {
-            return false;
-        }
-        i += 1;
-        j += 1;
-    }
-    ends(text, j)
+    at(text, one) == at(text, other)
 }
 
 // How many bytes the name at a place has.
-pub fn bytes(text: &[u8], at: usize) -> usize
-    ensures { result ≡ length (name_at text.now at) }
+pub fn bytes(text: &[u8], place: usize) -> usize
+    ensures { result ≡ length (name_at text.now place) }
 {
-    let mut i = at;
-    while i < text.len() {
-        if !goes_on(text[i]) {
-            return i - at;
-        }
-        i += 1;
-    }
-    i - at
+    at(text, place).len()
 }
 
 // A word of a variable, function or predicate with the number of its name.

@@ -1,6 +1,6 @@
 // A tree of names, in which a name is found in the time of its bytes, whatever the others are. Stem 0 is the empty name; each further stem is an
 // earlier one with a byte more, noted by its key: the earlier stem's number times 256, and the byte.
-ghost use Rattle.std.specs.Prelude.{◌≡◌, List, [], true, ℕ, ◌+◌, ◌/◌, max, ◌≤◌, ◌<◌, length};
+ghost use Rattle.std.specs.Prelude.{◌≡◌, List, [], true, ℕ, ◌+◌, ◌/◌, ◌≤◌, ◌<◌, length, IfSome, unwrap_or};
 ghost use Rattle.names.specs.Numbers.{Name};
 ghost use Rattle.names.specs.Noting.{name_at, names_at, uses_of, Numbering};
 ghost use Rattle.names.specs.Tree.{spelt, Tree, Found, Onward, Entered};
@@ -12,14 +12,14 @@ use words::fields;
 use words::fields::wide;
 
 // A stem, and how many keys there are.
-#[derive(Drop)]
+#[derive(Clone, Copy)]
 struct Stem {
     stem: usize,
     stems: usize,
 }
 
 // The number of a name, and how many keys there are.
-#[derive(Drop)]
+#[derive(Clone, Copy)]
 struct Use {
     number: usize,
     stems: usize,
@@ -35,19 +35,21 @@ const HEADS: usize = 131072;
 
 const MARKS: usize = 196609;
 
-// The number of a key, sought from the latest of the same earlier stem down; how many keys there are where it is not among them.
-fn find(memory: &[u32], count: usize, key: u32) -> usize
+// The number of a key, sought from the latest of the same earlier stem down: the keys are linked, so no index counts them.
+#[tactic(auto, using(crate::proofs::Stems::looking_laws))]
+fn find(memory: &[u32], count: usize, key: u32) -> Option<usize>
     requires { Tree memory.now count × (key / 256 ≤ 65536) }
-    ensures { Found memory.now count key result }
+    ensures within { IfSome result (λ number. number < count) }
+    ensures found { Found memory.now count key (unwrap_or result count) }
 {
     let mut at = wide(memory[HEADS + wide(key / 256)]);
     while at > 0 {
         if memory[at - 1] == key {
-            return at - 1;
+            return Some(at - 1);
         }
         at = wide(memory[BEFORE + (at - 1)]);
     }
-    count
+    None
 }
 
 // The stem of a byte after a stem.
@@ -56,24 +58,13 @@ fn onward(memory: &mut [u32], count: usize, stem: usize, byte: u8) -> usize
     ensures { Onward memory.old count stem byte memory.new result }
 {
     let key = stem as u32 * 256 + small(byte);
-    let number = find(memory, count, key);
-    if number < count {
+    if let Some(number) = find(memory, count, key) {
         return number + 1;
     }
     memory[count] = key;
     memory[BEFORE + count] = memory[HEADS + stem];
     memory[HEADS + stem] = count as u32 + 1;
     count + 1
-}
-
-// How many keys there are when a stem is reached.
-fn most(count: usize, stem: usize) -> usize
-    ensures { result ≡ max count stem }
-{
-    if count < stem {
-        return stem;
-    }
-    count
 }
 
 // The stem of the name at a place.
@@ -83,15 +74,9 @@ fn enter(text: &[u8], memory: &mut [u32], count: usize, name: usize) -> Stem
 {
     let mut stem = 0;
     let mut stems = count;
-    let mut i = name;
-    while i < text.len() {
-        let c = text[i];
-        if !name::goes_on(c) {
-            return Stem { stem, stems };
-        }
-        stem = onward(memory, stems, stem, c);
-        stems = most(stems, stem);
-        i += 1;
+    for c in name::at(text, name) {
+        stem = onward(memory, stems, stem, *c);
+        stems = stems.max(stem);
     }
     Stem { stem, stems }
 }
@@ -127,10 +112,8 @@ pub(crate) fn fits(text: &[u8], starts: &[u32], words: &[u32], kind: u32) -> boo
     ensures { result ≡ true → letters (uses_of kind words.now (names_at text.now starts.now)) ≤ 65536 }
 {
     let mut left: usize = 65536;
-    let mut i = 0;
-    while i < words.len() {
-        if fields::kind(words[i]) != kind {
-            i += 1;
+    for (i, w) in words.iter().enumerate() {
+        if fields::kind(*w) != kind {
             continue;
         }
         let bytes = name::bytes(text, wide(starts[i]));
@@ -138,7 +121,6 @@ pub(crate) fn fits(text: &[u8], starts: &[u32], words: &[u32], kind: u32) -> boo
             return false;
         }
         left -= bytes;
-        i += 1;
     }
     true
 }
@@ -158,14 +140,12 @@ pub(crate) fn number(
 {
     let mut stems = 0;
     let mut count = 0;
-    let mut i = 0;
-    while i < words.len() {
+    for (i, start) in starts.iter().enumerate() {
         let w = words[i];
         if fields::kind(w) != kind {
-            i += 1;
             continue;
         }
-        let used = note(text, memory, stems, count, wide(starts[i]));
+        let used = note(text, memory, stems, count, wide(*start));
         let n = used.number;
         if limit <= n {
             return limit + 1;
@@ -173,7 +153,6 @@ pub(crate) fn number(
         words[i] = name::with_number(w, n);
         stems = used.stems;
         count = known::grown(count, n);
-        i += 1;
     }
     count
 }

@@ -1,4 +1,5 @@
 -- The names of clauses found token by token, with premises as the code has them.
+use Rattle.std.specs.Prelude.{Some, None}
 use mathlib.Core.Bool.{Bool, true, false, cond}
 use mathlib.Core.List.{List, [], ◌∷◌, ◌++◌, append-nil, append_assoc, map-append}
 use mathlib.Core.Path.{◌≡◌, refl, sym, ap, ◌∙◌}
@@ -11,9 +12,8 @@ use borrow.Author.Tests.{eq-eqb, ne_eqb, lt-ltb, le-ltb}
 use lib.Dec.{eqb}
 use lib.ListN.{length, drop, get_or}
 use Rattle.clausetext.specs.declared.kind.Mark.{Mark}
-use Rattle.clausetext.specs.declared.kind.Mark.TheVariants.{Open, Close, Comma, Bar, Tilde, Dot}
 use Rattle.clausetext.specs.declared.token.Lexeme.{Lexeme}
-use Rattle.clausetext.specs.declared.token.Lexeme.TheVariants.{Word, Capital, Sign, Over}
+use Rattle.clausetext.specs.declared.token.Lexeme.TheVariants.{Word, Capital, Sign}
 use Rattle.clausetext.specs.Kinds.{kind_of, sign_kind, letter_kind}
 use Rattle.clausetext.specs.Syntax.{Term, Terms, Literal, Role, Axiom, Hypothesis, NegatedConjecture, role_name, Clause}
 use Rattle.clausetext.specs.Tokens.{Token, word, Spelt}
@@ -107,33 +107,6 @@ module _ {stage : ℕ} where
 
 pub ruleset stage_laws = (stage_next, stage_last, kept_this, kept_other)
 
-module _ (stage : ℕ) {m : Mark} {r : ℕ} where
-  pub open_stage : m ≡ Open → r ≡ next_stage stage → r ≡ sign_stage stage m
-  unfolding sign_stage
-  open_stage e q = rw e q
-
-  pub close_stage : m ≡ Close → r ≡ next_stage stage → r ≡ sign_stage stage m
-  unfolding sign_stage
-  close_stage e q = rw e q
-
-  pub comma_stage : m ≡ Comma → r ≡ next_stage stage → r ≡ sign_stage stage m
-  unfolding sign_stage
-  comma_stage e q = rw e q
-
-  pub bar_stage : m ≡ Bar → r ≡ next_stage stage → r ≡ sign_stage stage m
-  unfolding sign_stage
-  bar_stage e q = rw e q
-
-  pub tilde_stage : m ≡ Tilde → r ≡ next_stage stage → r ≡ sign_stage stage m
-  unfolding sign_stage
-  tilde_stage e q = rw e q
-
-pub dot_stage : (stage : ℕ) {m : Mark} → m ≡ Dot → 0 ≡ sign_stage stage m
-unfolding sign_stage
-dot_stage stage e = rw e
-
-pub ruleset sign_stage_laws = (open_stage, close_stage, comma_stage, bar_stage, tilde_stage, dot_stage)
-
 -- a question's role
 module _ (text : List ℕ) {start : ℕ} where
   pub role_none : length text ≤ start → false ≡ is_question (name_at text start)
@@ -211,83 +184,87 @@ module _ {text : List ℕ} {asked : Bool} {first : List ℕ} {from : ℕ} where
     written = finish (begin first from []);
   }
 
-  module _ {out : List ℕ} {stage name end at : ℕ} (inv : Going text asked first from out stage name end at) {l : Lexeme} (is : l ≡ lexeme_at text at) where
-    meets : Met text at inv.left l
-    meets = rw is (met inv.spelt)
-
-    pub names_over : l ≡ Over → NamesPut text asked first from out end
+  module _ {out : List ℕ} {stage name end at : ℕ} (inv : Going text asked first from out stage name end at) where
+    pub names_over : None ≡ lexeme_at text at → NamesPut text asked first from out end
     unfolding found
-    names_over e = record {
-      places = inv.places;
-      said = inv.said;
-      says = inv.says;
-      names = sym (append-nil (names_at text inv.places)) ∙ (rw (nothing_left meets e) at inv.goes);
-      written = inv.written;
-    }
-
-    module _ {start stop : ℕ} (e : l ≡ Word start stop) where
-      word_is : Head text at inv.left start stop word
-      word_is = word_head meets e
-
-      pub word_fits : length text ≤ 65536 → Fits w32 start
-      word_fits h = let f = word_is.found in record { fits = omega (arith, h, f.some, f.within) }
-
-      pub word_falls : length text - stop < length text - at
-      word_falls = let f = word_is.found in omega (arith, f.after, f.some, f.within)
-
-      pub names_word : {out' : List ℕ} {end' : ℕ} → Emitted text asked stage name start out end out' end' → {k : ℕ} → k ≡ kept stage name start → {s : ℕ} → s ≡ next_stage stage
-          → Going text asked first from out' s k end' stop
-      unfolding found
-      names_word p {k} ek {s} es =
-          let h = word_is in
-          let w = name_found h.found in
-          let here : names_at text inv.places ++ (emits asked stage (name_at text name) (name_at text start) ++ found asked (next_stage stage) (kept stage (name_at text name) (name_at text start)) h.others) ≡ names_of asked inv.said
-          = rw w (rw h.first at inv.goes) in
-          record {
-            said = inv.said;
-            says = inv.says;
-            left = h.others;
-            spelt = h.found.left;
-            places = inv.places ++ emits asked stage name (name_at text start);
-            goes =
-                rw (ek, es, kept_name text stage name start, map-append (λ (at : ℕ). name_at text at) inv.places (emits asked stage name (name_at text start)), emits_names text asked stage name (name_at text start))
-                (append_assoc (names_at text inv.places) (emits asked stage (name_at text name) (name_at text start)) (found asked (next_stage stage) (kept stage (name_at text name) (name_at text start)) h.others) ∙ here);
-            written = then inv.written p.put;
-          }
-
-    module _ {start stop : ℕ} (e : l ≡ Capital start stop) where
-      pub capital_falls : length text - stop < length text - at
-      capital_falls = let f = (capital_head meets e).found in omega (arith, f.after, f.some, f.within)
-
-      pub names_capital : {s : ℕ} → s ≡ next_stage stage → Going text asked first from out s name end stop
-      unfolding found
-      names_capital es = let h = capital_head meets e in record {
-        said = inv.said;
-        says = inv.says;
-        left = h.others;
-        spelt = h.found.left;
-        places = inv.places;
-        goes = rw es (rw h.first at inv.goes);
-        written = inv.written;
-      }
-
-    module _ {m : Mark} {next : ℕ} (e : l ≡ Sign m next) where
-      pub sign_falls : length text - next < length text - at
-      sign_falls = let f = (sign_head meets e).found in omega (arith, f.after, f.within)
-
-      pub names_sign : {s : ℕ} → s ≡ sign_stage stage m → Going text asked first from out s name end next
-      unfolding found
-      names_sign es = let h = sign_head meets e in record {
-        said = inv.said;
-        says = inv.says;
-        left = h.others;
-        spelt = h.found.left;
-        places = inv.places;
-        goes = rw es (rw h.first at inv.goes);
-        written = inv.written;
-      }
+    names_over e =
+        let m : Met text at inv.left None = rw e (met inv.spelt) in
+        let none : inv.left ≡ [] = nothing_left m in
+        record {
+          places = inv.places;
+          said = inv.said;
+          says = inv.says;
+          names = sym (append-nil (names_at text inv.places)) ∙ (rw none at inv.goes);
+          written = inv.written;
+        }
 
     pub names_size : length out ≡ length first
     names_size = same_size inv.written
+
+    module _ {l : Lexeme} (is : Some l ≡ lexeme_at text at) where
+      meets : Met text at inv.left (Some l)
+      meets = rw is (met inv.spelt)
+
+      module _ {start stop : ℕ} (e : l ≡ Word start stop) where
+        word_is : Head text at inv.left start stop word
+        word_is = word_head meets e
+
+        pub word_fits : length text ≤ 65536 → Fits w32 start
+        word_fits h = let f = word_is.found in record { fits = omega (arith, h, f.some, f.within) }
+
+        pub word_falls : length text - stop < length text - at
+        word_falls = let f = word_is.found in omega (arith, f.after, f.some, f.within)
+
+        pub names_word : {out' : List ℕ} {end' : ℕ} → Emitted text asked stage name start out end out' end' → {k : ℕ} → k ≡ kept stage name start → {s : ℕ} → s ≡ next_stage stage
+            → Going text asked first from out' s k end' stop
+        unfolding found
+        names_word p {k} ek {s} es =
+            let h = word_is in
+            let w = name_found h.found in
+            let here : names_at text inv.places ++ (emits asked stage (name_at text name) (name_at text start) ++ found asked (next_stage stage) (kept stage (name_at text name) (name_at text start)) h.others) ≡ names_of asked inv.said
+            = rw w (rw h.first at inv.goes) in
+            record {
+              said = inv.said;
+              says = inv.says;
+              left = h.others;
+              spelt = h.found.left;
+              places = inv.places ++ emits asked stage name (name_at text start);
+              goes =
+                  rw (ek, es, kept_name text stage name start, map-append (λ (at : ℕ). name_at text at) inv.places (emits asked stage name (name_at text start)), emits_names text asked stage name (name_at text start))
+                  (append_assoc (names_at text inv.places) (emits asked stage (name_at text name) (name_at text start)) (found asked (next_stage stage) (kept stage (name_at text name) (name_at text start)) h.others) ∙ here);
+              written = then inv.written p.put;
+            }
+
+      module _ {start stop : ℕ} (e : l ≡ Capital start stop) where
+        pub capital_falls : length text - stop < length text - at
+        capital_falls = let f = (capital_head meets e).found in omega (arith, f.after, f.some, f.within)
+
+        pub names_capital : {s : ℕ} → s ≡ next_stage stage → Going text asked first from out s name end stop
+        unfolding found
+        names_capital es = let h = capital_head meets e in record {
+          said = inv.said;
+          says = inv.says;
+          left = h.others;
+          spelt = h.found.left;
+          places = inv.places;
+          goes = rw es (rw h.first at inv.goes);
+          written = inv.written;
+        }
+
+      module _ {m : Mark} {next : ℕ} (e : l ≡ Sign m next) where
+        pub sign_falls : length text - next < length text - at
+        sign_falls = let f = (sign_head meets e).found in omega (arith, f.after, f.within)
+
+        pub names_sign : {s : ℕ} → s ≡ sign_stage stage m → Going text asked first from out s name end next
+        unfolding found
+        names_sign es = let h = sign_head meets e in record {
+          said = inv.said;
+          says = inv.says;
+          left = h.others;
+          spelt = h.found.left;
+          places = inv.places;
+          goes = rw es (rw h.first at inv.goes);
+          written = inv.written;
+        }
 
 pub ruleset names_laws = (names_begin, names_over, word_fits, word_falls, names_word, capital_falls, names_capital, sign_falls, names_sign, names_size)

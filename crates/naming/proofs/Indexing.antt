@@ -1,21 +1,20 @@
 -- An index made of a text's items, with premises as the code has them.
+use Rattle.std.specs.Prelude.{Ok, Err}
+use Rattle.clausetext.specs.declared.judge.Counts.{Counts}
 use mathlib.Core.Bool.{Bool, true, false, cond}
 use mathlib.Core.List.{List, [], ◌∷◌, ◌++◌, map}
 use mathlib.Core.Path.{◌≡◌, refl, sym, ap, ap₂, subst, ◌∙◌}
 use Prim.Native.Nat.{ℕ, zero, suc, ◌+◌, ◌-◌, ◌≤◌, ◌<◌}
-use native.Mathlib.Numerals.{add-one}
 use native.Mathlib.Omega.{arith}
 use borrow.Author.Tests.{eqb-true}
 use lib.Dec.{eqb}
-use lib.ListN.{length, take, drop, set, replicate, length-append, length-drop, length-replicate, get_or-replicate, length-set}
-use lib.Seq.{length-take-le, get_or-take, get_or-drop, take-append_seam, drop-append_seam, take-suc-set, take_all}
+use lib.ListN.{length, take, drop, replicate, length-append, length-drop, length-replicate, get_or-replicate}
+use lib.Seq.{length-take-le, get_or-take, get_or-drop, take-append_seam, drop-append_seam}
 use Rattle.words.specs.Fields.{kind_of, symbol_of, function_word, literal_word}
 use Rattle.words.proofs.Packed.{function_kind, literal_kind}
 use Rattle.clausetext.specs.Syntax.{Clause}
-use Rattle.clausetext.specs.declared.judge.Verdict.{Verdict}
-use Rattle.clausetext.specs.declared.judge.Verdict.TheVariants.{Wrong, Fine}
 use Rattle.clausetext.specs.Judging.{judged}
-use Rattle.clausetext.specs.Texts.{Permitted, Verdicts, long, wrong, fine}
+use Rattle.clausetext.specs.Texts.{Verdict, counts, Permitted, Verdicts, long, wrong, fine}
 use Rattle.clausetext.proofs.Judgement.{judged_verdict, only_verdict}
 use Rattle.clausetext.proofs.OneReading.{one_reading}
 use Rattle.table.specs.Limits.{Each}
@@ -174,35 +173,6 @@ both_noted {words} {places} {index} l {a} {b} f p =
       long = omega (arith, l, la, lb, length-append a (b ++ rest), length-append b rest, length-drop 4096 (drop 4096 (a ++ drop 4096 index)), length-drop 4096 (a ++ drop 4096 index), length-append a (drop 4096 index), length-drop 4096 index);
     })
 
--- an index is cleared
-pub record Clearing (first : List ℕ) (end : ℕ) (index : List ℕ) (i : ℕ) : Type 0 where
-  pub long : length index ≡ length first
-  pub within : i ≤ length index
-  pub front : take i index ≡ replicate i end
-
-module _ {first : List ℕ} {end : ℕ} where
-  pub clear_begin : Clearing first end first 0
-  clear_begin = record { long = refl; within = omega arith; front = refl }
-
-  module _ {index : List ℕ} {i : ℕ} (inv : Clearing first end index i) where
-    pub clear_end : length index ≤ i → index ≡ replicate (length first) end
-    clear_end h =
-        let e : i ≡ length index = omega (arith, h, inv.within) in
-        sym (take_all (length index) index (omega arith)) ∙ (rw e at inv.front) ∙ ap (λ (n : ℕ). replicate n end) inv.long
-
-    pub clear_next : i < length index → Clearing first end (set index i end) (i + 1)
-    clear_next h = record {
-      long = length-set index i end ∙ inv.long;
-      within = rw (length-set index i end) (omega (arith, h));
-      front = rw (add-one i) (take-suc-set index i end h ∙ ap (λ (l : List ℕ). l ++ (end ∷ [])) inv.front ∙ snoc i);
-    }
-      where
-        snoc : (n : ℕ) → replicate n end ++ (end ∷ []) ≡ replicate (suc n) end
-        snoc zero = refl
-        snoc (suc n) = ap (λ (l : List ℕ). end ∷ l) (snoc n)
-
-pub ruleset clear_laws = (clear_begin, clear_end, clear_next)
-
 -- no list is made of a text that is over the limits
 pub unlisted : {text index : List ℕ} → length index ≡ 16896 → ((cs : List Clause) → Admissible text cs → ⊥) → Listed text index false
 unlisted l none = record { long = l; made = λ cs a. absurd (none cs a); told = λ e. let z : ◌≡◌ {A = ℕ} 0 1 = cc in absurd (omega (arith, z)) }
@@ -237,12 +207,12 @@ cleared_unnamed text index {end} e l c = record {
 }
 
 -- a permitted text
-fine_permitted : {text : List ℕ} {v : Verdict} {n q : ℕ} → Verdicts text v → v ≡ Fine n q → (length text ≤ 65536) × Permitted text
+fine_permitted : {text : List ℕ} {v : Verdict} {c : Counts} → Verdicts text v → v ≡ Ok c → (length text ≤ 65536) × Permitted text
 fine_permitted (long h) e = let z : ◌≡◌ {A = ℕ} 0 1 = cc in absurd (omega (arith, z))
 fine_permitted (wrong h w) e = let z : ◌≡◌ {A = ℕ} 0 1 = cc in absurd (omega (arith, z))
 fine_permitted (fine {cs = cs} h y) e = (h, record { said = cs; says = y })
 
-module _ (text : List ℕ) {v : Verdict} (is : v ≡ judged text) {n q : ℕ} (e : v ≡ Fine n q) where
+module _ (text : List ℕ) {v : Verdict} (is : v ≡ judged text) {c : Counts} (e : v ≡ Ok c) where
   pub fine_short : length text ≤ 65536
   fine_short = (fine_permitted {text = text} (rw is (judged_verdict text)) e).0
 
@@ -258,7 +228,7 @@ items_ready {marks = marks} e h u few =
     ((rw (z, room), rw (z, room) (sym e), h), u)
 
 -- a wrong text is none of them
-pub wrong_refused : (text : List ℕ) {v : Verdict} → v ≡ judged text → {place : ℕ} → v ≡ Wrong place → (cs : List Clause) → Admissible text cs → ⊥
+pub wrong_refused : (text : List ℕ) {v : Verdict} → v ≡ judged text → {place : ℕ} → v ≡ Err place → (cs : List Clause) → Admissible text cs → ⊥
 wrong_refused text {v} is {place} e cs a =
-    let one : judged text ≡ Fine _ _ = only_verdict (fine a.limited a.says) in
+    let one : judged text ≡ counts _ _ = only_verdict (fine a.limited a.says) in
     let z : ◌≡◌ {A = ℕ} 0 1 = cc in omega (arith, z)

@@ -30,13 +30,11 @@ fn kept_name(stage: usize, name: u32, start: u32) -> u32
 }
 
 // A role begins with `n` where the clause is a question.
+#[tactic(auto, using(crate::proofs::ClauseNames::role_none, crate::proofs::ClauseNames::role_byte))]
 fn asks(text: &[u8], start: usize) -> bool
     ensures { result ≡ is_question (name_at text.now start) }
 {
-    if text.len() <= start {
-        return false;
-    }
-    text[start] == b'n'
+    start < text.len() && text[start] == b'n'
 }
 
 // At the role of a clause of the wanted sort, its name is put down.
@@ -67,20 +65,18 @@ fn put_name(
 }
 
 // After a sign: the next clause after `.`, else the next token.
+#[tactic(auto, unfolding(crate::specs::Clauses::sign_stage))]
 fn sign_stage(stage: usize, mark: Mark) -> usize
     ensures { result ≡ sign_stage stage mark }
 {
     match mark {
-        Mark::Open => next_stage(stage),
-        Mark::Close => next_stage(stage),
-        Mark::Comma => next_stage(stage),
-        Mark::Bar => next_stage(stage),
-        Mark::Tilde => next_stage(stage),
         Mark::Dot => 0,
+        _ => next_stage(stage),
     }
 }
 
 // Puts down where the names of the clauses stand that are questions, or of those that are not, in the order of the text.
+#[tactic(auto, using(crate::proofs::ClauseNames::names_laws))]
 pub fn put_names(text: &[u8], asked: bool, out: &mut [u32], from: usize) -> usize
     requires { (length text.now ≤ 65536) × Permitted text.now }
     ensures { NamesPut text.now asked out.old from out.new result }
@@ -89,27 +85,23 @@ pub fn put_names(text: &[u8], asked: bool, out: &mut [u32], from: usize) -> usiz
     let mut name = 0;
     let mut end = from;
     let mut at = 0;
-    loop {
-        let lexeme = token::next(text, at);
+    while let Some(lexeme) = token::next(text, at) {
         match lexeme {
-            Lexeme::Word(start, stop) => {
+            Lexeme::Word { start, stop } => {
                 end = put_name(text, asked, stage, name, start, out, end);
                 name = kept_name(stage, name, start as u32);
                 stage = next_stage(stage);
                 at = stop;
-                continue;
             }
-            Lexeme::Capital(_, stop) => {
+            Lexeme::Capital { stop, .. } => {
                 stage = next_stage(stage);
                 at = stop;
-                continue;
             }
-            Lexeme::Sign(mark, next) => {
+            Lexeme::Sign { mark, stop } => {
                 stage = sign_stage(stage, mark);
-                at = next;
-                continue;
+                at = stop;
             }
-            Lexeme::Over => return end,
         }
     }
+    end
 }

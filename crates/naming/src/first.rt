@@ -11,15 +11,11 @@ pub(crate) fn note(words: &[u32], places: &[u32], kind: u32, out: &mut [u32])
     ensures { Noted words.now places.now kind out.old out.new }
 {
     let mut count = 0;
-    let mut i = 0;
-    while i < words.len() {
-        let w = words[i];
-        if fields::kind(w) != kind {
-            i += 1;
+    for (i, w) in words.iter().enumerate() {
+        if fields::kind(*w) != kind {
             continue;
         }
-        if wide(fields::symbol(w)) != count {
-            i += 1;
+        if wide(fields::symbol(*w)) != count {
             continue;
         }
         if out.len() <= count {
@@ -27,6 +23,5 @@ pub(crate) fn note(words: &[u32], places: &[u32], kind: u32, out: &mut [u32])
         }
         out[count] = places[i];
         count += 1;
-        i += 1;
     }
 }

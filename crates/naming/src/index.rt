@@ -6,7 +6,7 @@ ghost use Rattle.naming.specs.Noting.{BothNoted, Listed, Unnamed, ClausesNamed, 
 
 use crate::clauses::put_names;
 use crate::first::note;
-use clausetext::judge::{Verdict, judge_text};
+use clausetext::judge::judge_text;
 use names::table::number;
 use tptp::shape::shapes;
 use tptp::sketch::gather;
@@ -15,11 +15,7 @@ use tptp::sketch::gather;
 fn clear(index: &mut [u32], end: u32)
     ensures { index.new ≡ replicate (length index.old) end }
 {
-    let mut i = 0;
-    while i < index.len() {
-        index[i] = end;
-        i += 1;
-    }
+    index.fill(end);
 }
 
 // The functions and the predicates of numbered words.
@@ -108,9 +104,8 @@ pub fn index(text: &[u8], index: &mut [u32]) -> bool
     requires { length index.old ≡ 16896 }
     ensures { Indexed text.now index.new result }
 {
-    let verdict = judge_text(text);
-    match verdict {
-        Verdict::Wrong(_) => false,
-        Verdict::Fine(_, _) => index_text(text, index),
+    match judge_text(text) {
+        Ok(_) => index_text(text, index),
+        Err(_) => false,
     }
 }

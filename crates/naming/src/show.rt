@@ -10,7 +10,7 @@ use words::fields;
 use words::fields::wide;
 
 // How many lists of arguments are being written, and how far the text goes.
-#[derive(Drop)]
+#[derive(Clone, Copy)]
 pub(crate) struct Reached {
     pub depth: usize,
     pub byte: usize,
@@ -135,32 +135,27 @@ fn run(
     let mut depth = 0;
     let mut before = 0;
     let mut at = from;
-    let mut i = 0;
-    while i < own.len() {
-        let w = own[i];
-        let kind = fields::kind(w);
+    for w in own {
+        let kind = fields::kind(*w);
         if kind == 0 {
-            let named = variable(text, variables, fields::number(w), out, at);
+            let named = variable(text, variables, fields::number(*w), out, at);
             let reached = leave(left, depth, out, named);
             depth = reached.depth;
             at = reached.byte;
-            i += 1;
             continue;
         }
         if kind == 1 {
-            let named = function(text, index, fields::symbol(w), out, at);
-            let reached = enter(left, depth, fields::arity(w), out, named);
+            let named = function(text, index, fields::symbol(*w), out, at);
+            let reached = enter(left, depth, fields::arity(*w), out, named);
             depth = reached.depth;
             at = reached.byte;
-            i += 1;
             continue;
         }
-        let named = begin(text, index, atoms, before, w, out, at);
-        let reached = enter(left, 0, fields::arity(w), out, named);
+        let named = begin(text, index, atoms, before, *w, out, at);
+        let reached = enter(left, 0, fields::arity(*w), out, named);
         depth = reached.depth;
         at = reached.byte;
         before += 1;
-        i += 1;
     }
     at
 }
@@ -187,14 +182,12 @@ fn literal_end(own: &[u32], from: usize) -> usize
     requires { from ≤ length own.now }
     ensures { result ≡ from + length (until_literal (drop from own.now)) }
 {
-    let mut at = from;
-    while at < own.len() {
+    for at in from..own.len() {
         if fields::kind(own[at]) == 2 {
             return at;
         }
-        at += 1;
     }
-    at
+    own.len()
 }
 
 // The words of a literal, as a part of the words of a clause or an answer; empty where there are not so many literals.
@@ -202,10 +195,8 @@ pub fn literal(own: &[u32], number: usize) -> &[u32]
     ensures { result.now ≡ literal_part own.now number }
 {
     let mut left = number;
-    let mut at = 0;
-    while at < own.len() {
-        if fields::kind(own[at]) != 2 {
-            at += 1;
+    for (at, w) in own.iter().enumerate() {
+        if fields::kind(*w) != 2 {
             continue;
         }
         if left == 0 {
@@ -213,7 +204,6 @@ pub fn literal(own: &[u32], number: usize) -> &[u32]
             return &own[at..end];
         }
         left -= 1;
-        at += 1;
     }
     &own[0..0]
 }

@@ -15,21 +15,6 @@ use Rattle.season.specs.Season.{Run, result_of, how_many, tries_of}
 use Rattle.season.specs.declared.Report.{Report}
 use Rattle.reports.specs.Counts.{sum_of, long_sum_of, AddedUp, ended_text, is_found, status_text, spent_text, asked_text, szs_question_text, title_text, found_counts_text, other_counts_text, last_counts_text, season_text, alone_report, one_report, no_question_text}
 
--- sums
-pub sum_over : (a b : ℕ) → 4294967295 < a + b → 4294967295 ≡ sum_of a b
-sum_over a b h = omega arith
-
-pub sum_fits : (a b : ℕ) → a + b ≤ 4294967295 → a + b ≡ sum_of a b
-sum_fits a b h = omega arith
-
-pub long_sum_over : (a b : ℕ) → a ≤ 18446744073709551615 → 18446744073709551615 - a < b → 18446744073709551615 ≡ long_sum_of a b
-long_sum_over a b k h = omega arith
-
-pub long_sum_fits : (a b : ℕ) → b ≤ 18446744073709551615 - a → a ≤ 18446744073709551615 → a + b ≡ long_sum_of a b
-long_sum_fits a b h k = omega arith
-
-pub ruleset sum_laws = (sum_over, sum_fits, long_sum_over, long_sum_fits)
-
 -- counts of runs, and of others after them
 many_more : (result : ℕ) (runs others : List Run) → how_many result (runs ++ others) ≡ how_many result runs + how_many result others
 unfolding how_many
@@ -60,21 +45,6 @@ added_up = λ runs others t.
       short (how_many 5 runs) (how_many 5 others) _ (many_more 5 runs others) t.refused,
       long (tries_of runs) (tries_of others) _ (tries_more runs others) t.tries,
     )
-
--- whether a refutation was found
-module _ (r : Report) where
-  pub found_definite : r.definite ≡ 1 → true ≡ is_found r
-  unfolding is_found
-  found_definite e = rw (eq-eqb r.definite 1 e)
-
-  module _ (a : r.definite ≡ 1 → ⊥) where
-    pub found_indefinite : r.indefinite ≡ 1 → true ≡ is_found r
-    unfolding is_found
-    found_indefinite e = rw (ne_eqb r.definite 1 a, eq-eqb r.indefinite 1 e)
-
-    pub found_toolong : (r.indefinite ≡ 1 → ⊥) → eqb r.toolong 1 ≡ is_found r
-    unfolding is_found
-    found_toolong b = rw (ne_eqb r.definite 1 a, ne_eqb r.indefinite 1 b)
 
 -- what a question came to
 module _ {o₀ o₁ : List ℕ} {n₀ n₁ : ℕ} (r : Report) where
@@ -128,8 +98,6 @@ module _ {o₀ o₁ : List ℕ} {n₀ n₁ : ℕ} (r : Report) where
         status_refused g p = rw (sym e ∙ f, ne_eqb r.none 1 a, ne_eqb r.ranout 1 g) p
 
 pub ruleset ended_laws = (ended_definite, ended_indefinite, ended_none, ended_ranout, ended_toolong, ended_refused)
-
-pub ruleset found_laws = (found_definite, found_indefinite, found_toolong)
 
 pub ruleset status_laws = (status_found, status_none, status_ranout, status_refused)
 

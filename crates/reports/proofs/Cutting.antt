@@ -2,8 +2,10 @@
 use mathlib.Core.Path.{◌≡◌, refl, ap}
 use mathlib.Core.Bool.{Bool, true, false, not, cond}
 use mathlib.Core.List.{List, [], ◌∷◌}
-use Prim.Native.Nat.{ℕ, suc, ◌+◌, ◌-◌, ◌≤◌, ◌<◌}
+use Prim.Native.Nat.{ℕ, suc, ◌+◌, ◌-◌, ◌^◌, ◌≤◌, ◌<◌}
 use native.Mathlib.Omega.{arith}
+use mir.Syntax.{w64}
+use mir.Val.{Fits}
 use lib.Dec.{eqb}
 use lib.ListN.{length, take, drop, get_or, drop_of_length-le, length-drop}
 use lib.Seq.{drop-drop}
@@ -17,42 +19,48 @@ use Rattle.clausetext.specs.declared.judge.State.{State}
 use Rattle.reports.specs.Clauses.{clause_length, onto, clauses_from, stated_part, all_stated}
 
 -- how far the end of a clause has been sought
-pub record Seeking (text : List ℕ) (from at : ℕ) (remark : Bool) : Type 0 where
-  pub same : from + clause_length false (drop from text) ≡ at + clause_length remark (drop at text)
+pub record Seeking (tail : List ℕ) (i : ℕ) (remark : Bool) : Type 0 where
+  pub same : clause_length false tail ≡ i + clause_length remark (drop i tail)
 
-pub seek_begin : (text : List ℕ) (from : ℕ) → Seeking text from from false
-seek_begin text from = record { same = refl }
+pub seek_begin : (tail : List ℕ) → Seeking tail 0 false
+seek_begin tail = record { same = omega arith }
 
-module _ {text : List ℕ} {from at : ℕ} {remark : Bool} (g : Seeking text from at remark) where
-  pub seek_over : length text ≤ at → at ≡ from + clause_length false (drop from text)
+module _ {tail : List ℕ} {i : ℕ} {remark : Bool} (g : Seeking tail i remark) where
+  pub seek_over : (text : List ℕ) (from : ℕ) → tail ≡ drop from text → length tail ≤ i → i ≤ length tail → from + length tail ≡ from + clause_length false (drop from text)
   unfolding clause_length
-  seek_over h =
-      let z : clause_length remark (drop at text) ≡ 0 = rw (drop_of_length-le text h) in
-      omega (arith, g.same, z)
+  seek_over text from e h k =
+      let z : clause_length remark (drop i tail) ≡ 0 = rw (drop_of_length-le tail h) in
+      rw (← e) (omega (arith, g.same, z))
 
-  module _ (h : at < length text) where
-    pub seek_remark : remark ≡ true → Seeking text from (at + 1) (not (eqb (get_or text at 0) 10))
+  module _ (h : i < length tail) where
+    pub seek_fits : (text : List ℕ) (from : ℕ) → tail ≡ drop from text → length text < 2 ^ 63 → Fits w64 (from + (i + 1))
+    seek_fits text from e k = record { fits = omega (arith, ap (λ (l : List ℕ). length l) e, length-drop from text) }
+
+    pub seek_remark : remark ≡ true → Seeking tail (i + 1) (not (eqb (get_or tail i 0) 10))
     unfolding clause_length
     seek_remark r =
-        let z : clause_length remark (drop at text) ≡ suc (clause_length (not (eqb (get_or text at 0) 10)) (drop (at + 1) text)) =
-        rw (from_place text at h, r) in
+        let z : clause_length remark (drop i tail) ≡ suc (clause_length (not (eqb (get_or tail i 0) 10)) (drop (i + 1) tail)) =
+        rw (from_place tail i h, r) in
         record { same = omega (arith, g.same, z) }
 
     module _ (r : remark ≡ false) where
-      pub seek_stop : get_or text at 0 ≡ 46 → at + 1 ≡ from + clause_length false (drop from text)
+      pub seek_stop : (text : List ℕ) (from : ℕ) → tail ≡ drop from text → get_or tail i 0 ≡ 46 → from + (i + 1) ≡ from + clause_length false (drop from text)
       unfolding clause_length
-      seek_stop e =
-          let z : clause_length remark (drop at text) ≡ 1 = rw (from_place text at h, r, eq-eqb (get_or text at 0) 46 e) in
-          omega (arith, g.same, z)
+      seek_stop text from e f =
+          let z : clause_length remark (drop i tail) ≡ 1 = rw (from_place tail i h, r, eq-eqb (get_or tail i 0) 46 f) in
+          rw (← e) (omega (arith, g.same, z))
 
-      pub seek_more : (get_or text at 0 ≡ 46 → ⊥) → Seeking text from (at + 1) (eqb (get_or text at 0) 37)
+      pub seek_more : (get_or tail i 0 ≡ 46 → ⊥) → Seeking tail (i + 1) (eqb (get_or tail i 0) 37)
       unfolding clause_length
       seek_more n =
-          let z : clause_length remark (drop at text) ≡ suc (clause_length (eqb (get_or text at 0) 37) (drop (at + 1) text)) =
-          rw (from_place text at h, r, ne_eqb (get_or text at 0) 46 n) in
+          let z : clause_length remark (drop i tail) ≡ suc (clause_length (eqb (get_or tail i 0) 37) (drop (i + 1) tail)) =
+          rw (from_place tail i h, r, ne_eqb (get_or tail i 0) 46 n) in
           record { same = omega (arith, g.same, z) }
 
-pub ruleset seek_laws = (seek_begin, seek_over, seek_remark, seek_stop, seek_more)
+pub tail_fits : (text : List ℕ) (from : ℕ) {tail : List ℕ} → tail ≡ drop from text → from < 2 ^ 64 → length text < 2 ^ 63 → Fits w64 (from + length tail)
+tail_fits text from e h k = record { fits = omega (arith, ap (λ (l : List ℕ). length l) e, length-drop from text) }
+
+pub ruleset seek_laws = (seek_begin, seek_over, seek_fits, seek_remark, seek_stop, seek_more, tail_fits)
 
 -- how long a clause is
 long_by : (q : Bool) (n m : ℕ) → n ≤ m → cond q 1 (suc n) ≤ suc m

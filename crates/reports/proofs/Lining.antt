@@ -16,96 +16,88 @@ use Rattle.text.proofs.Putting.{Left, begin, further, finish, then}
 use Rattle.text.proofs.Written.{from_place}
 use Rattle.requests.specs.Pieces.{up_to, decimal_at, same_bytes}
 use Rattle.requests.specs.declared.piece.Number.{Number}
-use Rattle.requests.specs.declared.piece.Number.TheVariants.{Value, Bad}
+use Rattle.std.specs.Prelude.{Option, Some, None, Result, Ok, Err, ltb, ◌||◌}
+use Rattle.std.specs.List.{position, position_or_len}
+use Rattle.std.specs.Option.{unwrap_or}
+use Rattle.std.proofs.lemmas.List.Recursion.{is_position_or_len}
+use Rattle.std.proofs.lemmas.Bool.Decides.{nat_tests}
 use Rattle.requests.proofs.Lists.{front_length, front_take}
-use Rattle.reports.specs.Records.{is_blank, ends_piece, blanks_in, piece_in, piece_start, piece_from, piece_bytes, number_up_to, slot_named, is_empty, number_at, slot_at, said_slot, said_house, said_in, onto, lines_of, words_of, words_said, fault_or, first_fault}
+use Rattle.reports.specs.Records.{is_blank, is_inked, ends_piece, blanks_in, piece_in, piece_start, piece_from, piece_bytes, number_up_to, slot_named, is_empty, number_at, slot_at, wrong, with_slot, said_slot, with_house, said_house, with_day, said_in, onto, lines_of, words_of, words_said, fault_or, first_fault}
 use Rattle.reports.specs.declared.lines.Piece.{Piece}
 use Rattle.reports.specs.declared.records.Wanted.{Wanted}
-use Rattle.reports.specs.declared.records.Wanted.TheVariants.{Nothing, Day, House, Slot, LineEnd}
-use Rattle.reports.specs.declared.records.Said.{Said}
-use Rattle.reports.specs.declared.records.Said.TheVariants.{Empty, Record, Wrong}
-
-not_true : (q : Bool) → not q ≡ true → q ≡ false
-not_true true e = sym e
-not_true false e = refl
-
-not_false : (q : Bool) → not q ≡ false → q ≡ true
-not_false true e = refl
-not_false false e = sym e
-
--- a byte
-module _ {c : ℕ} where
-  pub blank_space : c ≡ 32 → true ≡ is_blank c
-  unfolding is_blank
-  blank_space e = rw (eq-eqb c 32 e)
-
-  pub blank_tab : (c ≡ 32 → ⊥) → c ≡ 9 → true ≡ is_blank c
-  unfolding is_blank
-  blank_tab n e = rw (ne_eqb c 32 n, eq-eqb c 9 e)
-
-  pub blank_last : (c ≡ 32 → ⊥) → (c ≡ 9 → ⊥) → eqb c 13 ≡ is_blank c
-  unfolding is_blank
-  blank_last n m = rw (ne_eqb c 32 n, ne_eqb c 9 m)
-
-  pub ends_percent : c ≡ 37 → true ≡ ends_piece c
-  unfolding ends_piece
-  ends_percent e = rw (eq-eqb c 37 e)
-
-  pub ends_other : (c ≡ 37 → ⊥) → {q : Bool} → q ≡ is_blank c → q ≡ ends_piece c
-  unfolding ends_piece
-  ends_other n e = rw (ne_eqb c 37 n, e)
-
-pub ruleset byte_laws = (blank_space, blank_tab, blank_last, ends_percent, ends_other)
+use Rattle.reports.specs.declared.records.Wanted.TheVariants.{Day, House, Slot, LineEnd}
+use Rattle.reports.specs.declared.records.Fault.{Fault}
+use Rattle.requests.specs.declared.records.Record.{Record}
 
 -- past blanks, and past a piece
-pub record Skipping (line : List ℕ) (from at : ℕ) : Type 0 where
-  pub same : from + blanks_in (drop from line) ≡ at + blanks_in (drop at line)
+first_or_end : (n l : ℕ) → n ≤ l → unwrap_or (cond (ltb n l) (Some n) None) l ≡ n
+first_or_end n l h = go (ltb n l) refl
+  where
+    go : (b : Bool) → ltb n l ≡ b → unwrap_or (cond b (Some n) None) l ≡ n
+    go true e = refl
+    go false e = grind (arith, nat_tests)
 
-pub skip_begin : (line : List ℕ) (from : ℕ) → Skipping line from from
-skip_begin line from = record { same = refl }
+blanks_by : (q : Bool) (n m : ℕ) → n ≤ m → cond q (suc n) 0 ≤ suc m
+blanks_by true n m h = omega (arith, h)
+blanks_by false n m h = omega arith
 
-module _ {line : List ℕ} {from at : ℕ} (g : Skipping line from at) where
-  pub skip_over : length line ≤ at → at ≡ from + blanks_in (drop from line)
-  unfolding blanks_in
-  skip_over h = let z : blanks_in (drop at line) ≡ 0 = rw (drop_of_length-le line h) in omega (arith, g.same, z)
+blanks_long : (own : List ℕ) → blanks_in own ≤ length own
+unfolding blanks_in
+blanks_long [] = omega arith
+blanks_long (c ∷ own) = blanks_by (is_blank c) (blanks_in own) (length own) (blanks_long own)
 
-  module _ (h : at < length line) {q : Bool} (e : q ≡ is_blank (get_or line at 0)) where
-    pub skip_stops : not q ≡ true → at ≡ from + blanks_in (drop from line)
-    unfolding blanks_in
-    skip_stops f =
-        let z : blanks_in (drop at line) ≡ 0 = rw (from_place line at h, sym e ∙ not_true q f) in omega (arith, g.same, z)
+piece_by : (q : Bool) (n m : ℕ) → n ≤ m → cond q 0 (suc n) ≤ suc m
+piece_by true n m h = omega arith
+piece_by false n m h = omega (arith, h)
 
-    pub skip_more : not q ≡ false → Skipping line from (at + 1)
-    unfolding blanks_in
-    skip_more f =
-        let z : blanks_in (drop at line) ≡ suc (blanks_in (drop (at + 1) line)) = rw (from_place line at h, sym e ∙ not_false q f) in
-        record { same = omega (arith, g.same, z) }
+piece_long : (own : List ℕ) → piece_in own ≤ length own
+unfolding piece_in
+piece_long [] = omega arith
+piece_long (c ∷ own) = piece_by (ends_piece c) (piece_in own) (length own) (piece_long own)
 
-pub ruleset skip_laws = (skip_begin, skip_over, skip_stops, skip_more)
+blanks_first : (line : List ℕ) → blanks_in line ≡ position_or_len is_inked line
+unfolding blanks_in
+blanks_first line = is_position_or_len blanks_in is_inked refl (λ c l. goes (is_blank c) (blanks_in l)) line
+  where
+    goes : (b : Bool) (n : ℕ) → cond b (suc n) 0 ≡ cond (not b) 0 (1 + n)
+    goes true n = omega arith
+    goes false n = refl
 
-pub record Stopping (line : List ℕ) (from at : ℕ) : Type 0 where
-  pub same : from + piece_in (drop from line) ≡ at + piece_in (drop at line)
+piece_first : (line : List ℕ) → piece_in line ≡ position_or_len ends_piece line
+unfolding piece_in
+piece_first line = is_position_or_len piece_in ends_piece refl (λ c l. goes (ends_piece c) (piece_in l)) line
+  where
+    goes : (b : Bool) (n : ℕ) → cond b 0 (suc n) ≡ cond b 0 (1 + n)
+    goes true n = refl
+    goes false n = omega arith
 
-pub stop_begin : (line : List ℕ) (from : ℕ) → Stopping line from from
-stop_begin line from = record { same = refl }
+module _ (line : List ℕ) (from : ℕ) {tail : List ℕ} (e : tail ≡ drop from line) where
+  module _ {first : Option ℕ} {n : ℕ} (u : n ≡ unwrap_or first (length tail)) where
+    module _ (f : first ≡ position is_inked tail) where
+      past-blanks : n ≡ blanks_in tail
+      past-blanks = u ∙ rw (f, ← blanks_first tail) (first_or_end (blanks_in tail) (length tail) (blanks_long tail))
 
-module _ {line : List ℕ} {from at : ℕ} (g : Stopping line from at) where
-  pub stop_over : length line ≤ at → at ≡ from + piece_in (drop from line)
-  unfolding piece_in
-  stop_over h = let z : piece_in (drop at line) ≡ 0 = rw (drop_of_length-le line h) in omega (arith, g.same, z)
+      pub skip_is : from + n ≡ from + blanks_in (drop from line)
+      skip_is = rw (past-blanks, e)
 
-  module _ (h : at < length line) {q : Bool} (e : q ≡ ends_piece (get_or line at 0)) where
-    pub stop_stops : q ≡ true → at ≡ from + piece_in (drop from line)
-    unfolding piece_in
-    stop_stops f = let z : piece_in (drop at line) ≡ 0 = rw (from_place line at h, sym e ∙ f) in omega (arith, g.same, z)
+      pub skip_fits : from < 2 ^ 64 → length line < 2 ^ 63 → Fits w64 (from + n)
+      skip_fits h k =
+          record { fits = omega (arith, past-blanks, blanks_long tail, ap (λ (l : List ℕ). length l) e, length-drop from line) }
 
-    pub stop_more : q ≡ false → Stopping line from (at + 1)
-    unfolding piece_in
-    stop_more f =
-        let z : piece_in (drop at line) ≡ suc (piece_in (drop (at + 1) line)) = rw (from_place line at h, sym e ∙ f) in
-        record { same = omega (arith, g.same, z) }
+    module _ (f : first ≡ position ends_piece tail) where
+      past-piece : n ≡ piece_in tail
+      past-piece = u ∙ rw (f, ← piece_first tail) (first_or_end (piece_in tail) (length tail) (piece_long tail))
 
-pub ruleset stop_laws = (stop_begin, stop_over, stop_stops, stop_more)
+      pub stop_is : from + n ≡ from + piece_in (drop from line)
+      stop_is = rw (past-piece, e)
+
+      pub stop_fits : from < 2 ^ 64 → length line < 2 ^ 63 → Fits w64 (from + n)
+      stop_fits h k =
+          record { fits = omega (arith, past-piece, piece_long tail, ap (λ (l : List ℕ). length l) e, length-drop from line) }
+
+pub ruleset skip_laws = (skip_is, skip_fits)
+
+pub ruleset stop_laws = (stop_is, stop_fits)
 
 pub piece_is : (line : List ℕ) (from : ℕ) {start end : ℕ} → start ≡ from + blanks_in (drop from line) → end ≡ start + piece_in (drop start line)
     → record { start = start; end = end } ≡ piece_from line from
@@ -116,38 +108,43 @@ pub bytes_are : (line : List ℕ) (p : Piece) {upto own : List ℕ} → upto ≡
 bytes_are line p eu eo = eo ∙ rw eu
 
 -- a number and a slot
-module _ (own : List ℕ) (most : ℕ) {q : Number} (e : q ≡ decimal_at 32 own 0) where
-  pub number_bad : q ≡ Bad → 0 ≡ number_up_to most own
+module _ (own : List ℕ) (most : ℕ) {q : Option Number} (e : q ≡ decimal_at 32 own 0) where
+  pub number_bad : q ≡ None → None ≡ number_up_to most own
   unfolding number_up_to
   number_bad b = rw (sym e ∙ b)
 
-  module _ {n next : ℕ} (v : q ≡ Value n next) where
-    pub number_large : most < n → 0 ≡ number_up_to most own
+  module _ {n : Number} (v : q ≡ Some n) where
+    pub number_zero : n.value ≡ 0 → None ≡ number_up_to most own
     unfolding number_up_to
-    number_large h = rw (sym e ∙ v, lt-ltb most n h)
+    number_zero h = rw (sym e ∙ v, eq-eqb n.value 0 h)
 
-    pub number_fits : n ≤ most → n ≡ number_up_to most own
-    unfolding number_up_to
-    number_fits h = rw (sym e ∙ v, le-ltb most n h)
+    module _ (z : n.value ≡ 0 → ⊥) where
+      pub number_large : most < n.value → None ≡ number_up_to most own
+      unfolding number_up_to
+      number_large h = rw (sym e ∙ v, ne_eqb n.value 0 z, lt-ltb most n.value h)
 
-pub ruleset number_laws = (number_bad, number_large, number_fits)
+      pub number_fits : n.value ≤ most → Some n.value ≡ number_up_to most own
+      unfolding number_up_to
+      number_fits h = rw (sym e ∙ v, ne_eqb n.value 0 z, le-ltb most n.value h)
+
+pub ruleset number_laws = (number_bad, number_zero, number_large, number_fits)
 
 module _ (own : List ℕ) {a : Bool} (ea : a ≡ same_bytes own (bytes "matinee")) where
-  pub slot_matinee : a ≡ true → 1 ≡ slot_named own
+  pub slot_matinee : a ≡ true → Some 1 ≡ slot_named own
   unfolding slot_named
   slot_matinee t = rw (sym ea ∙ t)
 
   module _ (fa : a ≡ false) {b : Bool} (eb : b ≡ same_bytes own (bytes "evening")) where
-    pub slot_evening : b ≡ true → 2 ≡ slot_named own
+    pub slot_evening : b ≡ true → Some 2 ≡ slot_named own
     unfolding slot_named
     slot_evening t = rw (sym ea ∙ fa, sym eb ∙ t)
 
     module _ (fb : b ≡ false) {c : Bool} (ec : c ≡ same_bytes own (bytes "either")) where
-      pub slot_either : c ≡ true → 3 ≡ slot_named own
+      pub slot_either : c ≡ true → Some 3 ≡ slot_named own
       unfolding slot_named
       slot_either t = rw (sym ea ∙ fa, sym eb ∙ fb, sym ec ∙ t)
 
-      pub slot_none : c ≡ false → 0 ≡ slot_named own
+      pub slot_none : c ≡ false → None ≡ slot_named own
       unfolding slot_named
       slot_none f = rw (sym ea ∙ fa, sym eb ∙ fb, sym ec ∙ f)
 
@@ -155,65 +152,63 @@ pub ruleset slot_laws = (slot_matinee, slot_evening, slot_either, slot_none)
 
 -- a line, from its end backwards
 module _ (line : List ℕ) (from : ℕ) {p : Piece} (ep : p ≡ piece_from line from) where
-  module _ (day house : ℕ) {own : List ℕ} (eo : own ≡ piece_bytes line p) {slot : ℕ} (es : slot ≡ slot_named own) where
-    pub slot_wrong : slot ≡ 0 → Wrong p.start Slot ≡ said_slot line from day house
+  module _ (day house : ℕ) {own : List ℕ} (eo : own ≡ piece_bytes line p) {named : Option ℕ} (es : named ≡ slot_named own) where
+    pub slot_wrong : named ≡ None → {s : Result (Option Record) Fault} → s ≡ wrong p.start Slot → s ≡ said_slot line from day house
     unfolding said_slot
-    slot_wrong h = rw (← ep, ← eo, ← es, eq-eqb slot 0 h)
+    slot_wrong h f = rw (← ep, ← eo, ← es, h, ← ep) f
 
-    module _ (hs : slot ≡ 0 → ⊥) {e : Piece} (ee : e ≡ piece_from line p.end) where
-      pub slot_last : e.start ≡ e.end → Record day house slot ≡ said_slot line from day house
+    module _ {slot : ℕ} (hs : named ≡ Some slot) {e : Piece} (ee : e ≡ piece_from line p.end) where
+      pub slot_last : e.start ≡ e.end → Ok (Some (record { day = day; house = house; slot = slot })) ≡ said_slot line from day house
       unfolding said_slot
-      slot_last h = rw (← ep, ← eo, ← es, ne_eqb slot 0 hs, ← ee, eq-eqb e.start e.end h)
+      slot_last h = rw (← ep, ← eo, ← es, hs, ← ep, ← ee, eq-eqb e.start e.end h)
 
-      pub slot_more : (e.start ≡ e.end → ⊥) → Wrong e.start LineEnd ≡ said_slot line from day house
+      pub slot_more : (e.start ≡ e.end → ⊥) → {s : Result (Option Record) Fault} → s ≡ wrong e.start LineEnd → s ≡ said_slot line from day house
       unfolding said_slot
-      slot_more h = rw (← ep, ← eo, ← es, ne_eqb slot 0 hs, ← ee, ne_eqb e.start e.end h)
+      slot_more h f = rw (← ep, ← eo, ← es, hs, ← ep, ← ee, ne_eqb e.start e.end h) f
 
-  module _ (day : ℕ) {own : List ℕ} (eo : own ≡ piece_bytes line p) {house : ℕ} (eh : house ≡ number_up_to 999 own) where
-    pub house_wrong : house ≡ 0 → Wrong p.start House ≡ said_house line from day
+  module _ (day : ℕ) {own : List ℕ} (eo : own ≡ piece_bytes line p) {read : Option ℕ} (eh : read ≡ number_up_to 999 own) where
+    pub house_wrong : read ≡ None → {s : Result (Option Record) Fault} → s ≡ wrong p.start House → s ≡ said_house line from day
     unfolding said_house
-    house_wrong h = rw (← ep, ← eo, ← eh, eq-eqb house 0 h)
+    house_wrong h f = rw (← ep, ← eo, ← eh, h, ← ep) f
 
-    pub house_on : (house ≡ 0 → ⊥) → {s : Said} → s ≡ said_slot line p.end day house → s ≡ said_house line from day
+    pub house_on : {house : ℕ} → read ≡ Some house → {s : Result (Option Record) Fault} → s ≡ said_slot line p.end day house → s ≡ said_house line from day
     unfolding said_house
-    house_on h e = rw (← ep, ← eo, ← eh, ne_eqb house 0 h) e
+    house_on h e = rw (← ep, ← eo, ← eh, h, ← ep) e
 
 pub ruleset slot_line_laws = (slot_wrong, slot_last, slot_more)
 
 pub ruleset house_line_laws = (house_wrong, house_on)
 
 module _ (line : List ℕ) {p : Piece} (ep : p ≡ piece_from line 0) where
-  pub line_empty : p.start ≡ p.end → Empty ≡ said_in line
+  pub line_empty : p.start ≡ p.end → Ok None ≡ said_in line
   unfolding said_in
   line_empty h = rw (← ep, eq-eqb p.start p.end h)
 
-  module _ (hp : p.start ≡ p.end → ⊥) {own : List ℕ} (eo : own ≡ piece_bytes line p) {day : ℕ} (ed : day ≡ number_up_to 366 own) where
-    pub day_wrong : day ≡ 0 → Wrong p.start Day ≡ said_in line
+  module _ (hp : p.start ≡ p.end → ⊥) {own : List ℕ} (eo : own ≡ piece_bytes line p) {read : Option ℕ} (ed : read ≡ number_up_to 366 own) where
+    pub day_wrong : read ≡ None → {s : Result (Option Record) Fault} → s ≡ wrong p.start Day → s ≡ said_in line
     unfolding said_in
-    day_wrong h = rw (← ep, ne_eqb p.start p.end hp, ← eo, ← ed, eq-eqb day 0 h)
+    day_wrong h f = rw (← ep, ne_eqb p.start p.end hp, ← eo, ← ed, h, ← ep) f
 
-    pub day_on : (day ≡ 0 → ⊥) → {s : Said} → s ≡ said_house line p.end day → s ≡ said_in line
+    pub day_on : {day : ℕ} → read ≡ Some day → {s : Result (Option Record) Fault} → s ≡ said_house line p.end day → s ≡ said_in line
     unfolding said_in
-    day_on h e = rw (← ep, ne_eqb p.start p.end hp, ← eo, ← ed, ne_eqb day 0 h) e
+    day_on h e = rw (← ep, ne_eqb p.start p.end hp, ← eo, ← ed, h, ← ep) e
 
 pub ruleset day_line_laws = (line_empty, day_wrong, day_on)
 
 -- a record put, or none
-module _ {out : List ℕ} {at : ℕ} {s : Said} where
-  pub put_empty : s ≡ Empty → Put out at (words_of s) out at
+module _ {out : List ℕ} {at : ℕ} {s : Result (Option Record) Fault} where
+  pub put_empty : {o : Option Record} → s ≡ Ok o → o ≡ None → Put out at (words_of s) out at
   unfolding words_of
-  put_empty e = rw e (finish (begin out at []))
+  put_empty e f = rw (e, f) (finish (begin out at []))
 
-  pub put_wrong : {place : ℕ} {w : Wanted} → s ≡ Wrong place w → Put out at (words_of s) out at
+  pub put_wrong : {fault : Fault} → s ≡ Err fault → Put out at (words_of s) out at
   unfolding words_of
   put_wrong e = rw e (finish (begin out at []))
 
-  pub put_said : {day house slot : ℕ} → s ≡ Record day house slot → {o₁ o₂ o₃ : List ℕ} {n₁ n₂ n₃ : ℕ} → Put out at (day ∷ []) o₁ n₁
-      → Put o₁ n₁ (house ∷ []) o₂ n₂ → Put o₂ n₂ (slot ∷ []) o₃ n₃ → Put out at (words_of s) o₃ n₃
+  pub put_said : {o : Option Record} → s ≡ Ok o → {r : Record} → o ≡ Some r → {o₁ o₂ o₃ : List ℕ} {n₁ n₂ n₃ : ℕ} → Put out at (r.day ∷ []) o₁ n₁
+      → Put o₁ n₁ (r.house ∷ []) o₂ n₂ → Put o₂ n₂ (r.slot ∷ []) o₃ n₃ → Put out at (words_of s) o₃ n₃
   unfolding words_of
-  put_said e p q r = rw e (then p (then q r))
-
-pub ruleset put_laws = (put_empty, put_wrong, put_said)
+  put_said e f p q r = rw (e, f) (then p (then q r))
 
 -- the lines of a text
 lines_by : (c : ℕ) (own : List ℕ) (q : Bool) → onto c (lines_of own) ≡ (c ∷ up_to 10 own) ∷ lines_of (drop (suc (length (up_to 10 own))) own)
@@ -257,7 +252,7 @@ module _ (text : List ℕ) (at : ℕ) (h : at < length text) {end : ℕ} (e : en
       first ∙ rw (later, line_is)
 
   pub gather_more : {first : List ℕ} {from : ℕ} {whole out : List ℕ} {used : ℕ} → Left first from whole out used (words_said (lines_of (drop at text)))
-      → {s : Said} → s ≡ said_in (take (end - at) (drop at text)) → {out' : List ℕ} {used' : ℕ} → Put out used (words_of s) out' used'
+      → {s : Result (Option Record) Fault} → s ≡ said_in (take (end - at) (drop at text)) → {out' : List ℕ} {used' : ℕ} → Put out used (words_of s) out' used'
       → Left first from whole out' used' (words_said (lines_of (drop (end + 1) text)))
   unfolding words_said
   gather_more l es p =
@@ -271,32 +266,13 @@ gather_over text at l h = finish (rw (drop_of_length-le text h) at l)
 pub ruleset gather_laws = (begin, line_within, line_fits, line_falls, line_after, gather_more, gather_over)
 
 -- where a line goes wrong
-abbrev Inside : Said → ℕ → Type 0
-Inside Empty n = Unit {0}
-Inside (Record day house slot) n = Unit {0}
-Inside (Wrong place w) n = place ≤ n
+abbrev Inside : Result (Option Record) Fault → ℕ → Type 0
+Inside (Ok said) n = Unit {0}
+Inside (Err fault) n = fault.place ≤ n
 
-either_inside : (q : Bool) (s t : Said) (n : ℕ) → Inside s n → Inside t n → Inside (cond q s t) n
+either_inside : (q : Bool) (s t : Result (Option Record) Fault) (n : ℕ) → Inside s n → Inside t n → Inside (cond q s t) n
 either_inside true s t n a b = a
 either_inside false s t n a b = b
-
-blanks_by : (q : Bool) (n m : ℕ) → n ≤ m → cond q (suc n) 0 ≤ suc m
-blanks_by true n m h = omega (arith, h)
-blanks_by false n m h = omega arith
-
-blanks_long : (own : List ℕ) → blanks_in own ≤ length own
-unfolding blanks_in
-blanks_long [] = omega arith
-blanks_long (c ∷ own) = blanks_by (is_blank c) (blanks_in own) (length own) (blanks_long own)
-
-piece_by : (q : Bool) (n m : ℕ) → n ≤ m → cond q 0 (suc n) ≤ suc m
-piece_by true n m h = omega arith
-piece_by false n m h = omega (arith, h)
-
-piece_long : (own : List ℕ) → piece_in own ≤ length own
-unfolding piece_in
-piece_long [] = omega arith
-piece_long (c ∷ own) = piece_by (ends_piece c) (piece_in own) (length own) (piece_long own)
 
 module _ (line : List ℕ) (from : ℕ) (h : from ≤ length line) where
   start-inside : (piece_from line from).start ≤ length line
@@ -310,35 +286,31 @@ module _ (line : List ℕ) (from : ℕ) (h : from ≤ length line) where
 
 slot_inside : (line : List ℕ) (from day house : ℕ) → from ≤ length line → Inside (said_slot line from day house) (length line)
 unfolding said_slot
-slot_inside line from day house h =
-    either_inside (eqb (slot_at line from) 0) (Wrong (piece_from line from).start Slot)
-    (cond (is_empty (piece_from line (piece_from line from).end)) (Record day house (slot_at line from))
-    (Wrong (piece_from line (piece_from line from).end).start LineEnd))
-    (length line) (start-inside line from h)
-    (either_inside (is_empty (piece_from line (piece_from line from).end)) (Record day house (slot_at line from))
-    (Wrong (piece_from line (piece_from line from).end).start LineEnd) (length line) (tt {0})
-    (start-inside line (piece_from line from).end (end_inside line from h)))
+slot_inside line from day house h = by (slot_at line from)
+  where
+    by : (named : Option ℕ) → Inside (with_slot line from day house named) (length line)
+    by (Some slot) =
+        either_inside (is_empty (piece_from line (piece_from line from).end)) (Ok (Some (record { day = day; house = house; slot = slot })))
+        (wrong (piece_from line (piece_from line from).end).start LineEnd) (length line) (tt {0})
+        (start-inside line (piece_from line from).end (end_inside line from h))
+    by None = start-inside line from h
 
 house_inside : (line : List ℕ) (from day : ℕ) → from ≤ length line → Inside (said_house line from day) (length line)
 unfolding said_house
-house_inside line from day h =
-    either_inside (eqb (number_at 999 line from) 0) (Wrong (piece_from line from).start House)
-    (said_slot line (piece_from line from).end day (number_at 999 line from))
-    (length line) (start-inside line from h)
-    (slot_inside line (piece_from line from).end day (number_at 999 line from) (end_inside line from h))
+house_inside line from day h = by (number_at 999 line from)
+  where
+    by : (read : Option ℕ) → Inside (with_house line from day read) (length line)
+    by (Some house) = slot_inside line (piece_from line from).end day house (end_inside line from h)
+    by None = start-inside line from h
 
 said_inside : (line : List ℕ) → Inside (said_in line) (length line)
 unfolding said_in
 said_inside line =
-    let h : 0 ≤ length line = omega arith in
-    either_inside (is_empty (piece_from line 0)) Empty
-    (cond (eqb (number_at 366 line 0) 0) (Wrong (piece_from line 0).start Day)
-    (said_house line (piece_from line 0).end (number_at 366 line 0)))
-    (length line) (tt {0})
-    (either_inside (eqb (number_at 366 line 0) 0) (Wrong (piece_from line 0).start Day)
-    (said_house line (piece_from line 0).end (number_at 366 line 0))
-    (length line) (start-inside line 0 h)
-    (house_inside line (piece_from line 0).end (number_at 366 line 0) (end_inside line 0 h)))
+    either_inside (is_empty (piece_from line 0)) (Ok None) (with_day line (number_at 366 line 0)) (length line) (tt {0}) (by (number_at 366 line 0))
+  where
+    by : (read : Option ℕ) → Inside (with_day line read) (length line)
+    by (Some day) = house_inside line (piece_from line 0).end day (end_inside line 0 (omega arith))
+    by None = start-inside line 0 (omega arith)
 
 -- the first fault
 pub record Faulty (text : List ℕ) (at : ℕ) : Type 0 where
@@ -348,11 +320,11 @@ pub fault_begin : (text : List ℕ) → Faulty text 0
 fault_begin text = record { same = refl }
 
 module _ {text : List ℕ} {at : ℕ} (g : Faulty text at) where
-  pub fault_over : length text ≤ at → record { place = 0; wanted = Nothing } ≡ first_fault 0 (lines_of text)
+  pub fault_over : length text ≤ at → None ≡ first_fault 0 (lines_of text)
   unfolding first_fault lines_of
   fault_over h = sym (g.same ∙ rw (drop_of_length-le text h))
 
-  module _ (h : at < length text) {end : ℕ} (e : end ≡ at + length (up_to 10 (drop at text))) {s : Said} (es : s ≡ said_in (take (end - at) (drop at text))) where
+  module _ (h : at < length text) {end : ℕ} (e : end ≡ at + length (up_to 10 (drop at text))) {s : Result (Option Record) Fault} (es : s ≡ said_in (take (end - at) (drop at text))) where
     size : length (take (end - at) (drop at text)) ≡ end - at
     size = rw (line_is text at h e) (omega (arith, e))
 
@@ -362,18 +334,15 @@ module _ {text : List ℕ} {at : ℕ} (g : Faulty text at) where
         let z : at + (end - at) + 1 ≡ end + 1 = omega (arith, e) in
         rw (lines-on text at h e, ← es, size, z)
 
-    pub fault_wrong : {place : ℕ} {w : Wanted} → s ≡ Wrong place w → record { place = at + place; wanted = w } ≡ first_fault 0 (lines_of text)
+    pub fault_wrong : {fault : Fault} → s ≡ Err fault → Some (record { place = at + fault.place; wanted = fault.wanted }) ≡ first_fault 0 (lines_of text)
     fault_wrong f = sym (g.same ∙ step ∙ rw f)
 
-    pub fault_empty : s ≡ Empty → Faulty text (end + 1)
-    fault_empty f = record { same = g.same ∙ step ∙ rw f }
+    pub fault_on : {said : Option Record} → s ≡ Ok said → Faulty text (end + 1)
+    fault_on f = record { same = g.same ∙ step ∙ rw f }
 
-    pub fault_record : {day house slot : ℕ} → s ≡ Record day house slot → Faulty text (end + 1)
-    fault_record f = record { same = g.same ∙ step ∙ rw f }
-
-    pub place_fits : {place : ℕ} {w : Wanted} → s ≡ Wrong place w → length text < 2 ^ 63 → Fits w64 (at + place)
-    place_fits {place} f k =
-        let inside : place ≤ length (take (end - at) (drop at text)) = rw (sym es ∙ f) at (said_inside (take (end - at) (drop at text))) in
+    pub place_fits : {fault : Fault} → s ≡ Err fault → length text < 2 ^ 63 → Fits w64 (at + fault.place)
+    place_fits {fault} f k =
+        let inside : fault.place ≤ length (take (end - at) (drop at text)) = rw (sym es ∙ f) at (said_inside (take (end - at) (drop at text))) in
         record { fits = omega (arith, inside, size, line_within text at h e) }
 
-pub ruleset fault_laws = (fault_begin, line_within, line_fits, line_falls, line_after, fault_over, fault_wrong, fault_empty, fault_record, place_fits)
+pub ruleset fault_laws = (fault_begin, line_within, line_fits, line_falls, line_after, fault_over, fault_wrong, fault_on, place_fits)

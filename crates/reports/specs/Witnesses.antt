@@ -1,5 +1,5 @@
 -- The judgements of this crate on texts and lines, each where it holds and where it fails.
-use Rattle.std.specs.Prelude.{false, [], ◌∷◌, ◌≡◌, ℕ}
+use Rattle.std.specs.Prelude.{false, [], ◌∷◌, ◌≡◌, ℕ, Some, None, Ok, Err}
 use Rattle.text.specs.Quoted.{bytes}
 use Rattle.season.specs.declared.Report.{Report}
 use Rattle.desk.specs.declared.Report.TheVariants.{MatineeAndEvening, Either, NotRecorded, RanOut}
@@ -7,8 +7,7 @@ use Rattle.reports.specs.Clauses.{clauses_from, stated_text}
 use Rattle.reports.specs.Counts.{ended_text, status_text}
 use Rattle.reports.specs.Said.{slot_text, desk_text}
 use Rattle.reports.specs.Records.{said_in, lines_of, words_said, first_fault}
-use Rattle.reports.specs.declared.records.Wanted.TheVariants.{Nothing, Day, House, Slot, LineEnd}
-use Rattle.reports.specs.declared.records.Said.TheVariants.{Empty, Record, Wrong}
+use Rattle.reports.specs.declared.records.Wanted.TheVariants.{Day, House, Slot, LineEnd}
 
 -- a `.` in a comment ends no clause
 unfoldable pub ClausesCut : Type 0
@@ -16,18 +15,18 @@ ClausesCut = clauses_from false (bytes "a%.\nb.c.d") ≡ (bytes "a%.\nb." ∷ by
 
 unfoldable pub LinesRead : Type 0
 LinesRead =
-    (said_in (bytes " 92 17  evening % two") ≡ Record 92 17 2)
-    × (said_in (bytes " % no record") ≡ Empty)
-    × (said_in (bytes "367 17 matinee") ≡ Wrong 0 Day)
-    × (said_in (bytes "92 0 matinee") ≡ Wrong 3 House)
-    × (said_in (bytes "92 17 noon") ≡ Wrong 6 Slot)
-    × (said_in (bytes "92 17 either 4") ≡ Wrong 13 LineEnd)
+    (said_in (bytes " 92 17  evening % two") ≡ Ok (Some (record { day = 92; house = 17; slot = 2 })))
+    × (said_in (bytes " % no record") ≡ Ok None)
+    × (said_in (bytes "367 17 matinee") ≡ Err (record { place = 0; wanted = Day }))
+    × (said_in (bytes "92 0 matinee") ≡ Err (record { place = 3; wanted = House }))
+    × (said_in (bytes "92 17 noon") ≡ Err (record { place = 6; wanted = Slot }))
+    × (said_in (bytes "92 17 either 4") ≡ Err (record { place = 13; wanted = LineEnd }))
 
 unfoldable pub TextRead : Type 0
 TextRead =
     (words_said (lines_of (bytes "92 17 matinee\n\n93 17 either")) ≡ (92 ∷ 17 ∷ 1 ∷ 93 ∷ 17 ∷ 3 ∷ []))
-    × (first_fault 0 (lines_of (bytes "92 17 matinee\n\n93 17 either")) ≡ record { place = 0; wanted = Nothing })
-    × (first_fault 0 (lines_of (bytes "92 17 matinee\n92 x matinee\n")) ≡ record { place = 17; wanted = House })
+    × (first_fault 0 (lines_of (bytes "92 17 matinee\n\n93 17 either")) ≡ None)
+    × (first_fault 0 (lines_of (bytes "92 17 matinee\n92 x matinee\n")) ≡ Some (record { place = 17; wanted = House }))
 
 -- nothing found, none within the limit, one found but too long: only the last tells of a refutation
 abbrev of_none : ℕ → ℕ → Report

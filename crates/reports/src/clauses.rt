@@ -4,28 +4,26 @@ ghost use Rattle.text.specs.Put.{Put};
 ghost use Rattle.reports.specs.Clauses.{clause_length, stated_part, stated_text};
 
 use clausetext::stuck;
-use text::put;
+use text::{part, put};
 
 // Where the clause that begins at a place ends: after its `.`, or with the text.
+#[tactic(auto, using(crate::proofs::Cutting::seek_laws))]
 pub fn clause_end(text: &[u8], from: usize) -> usize
     ensures { result ≡ from + clause_length false (drop from text.now) }
 {
-    let mut at = from;
+    let tail = part::rest(text, from);
     let mut remark = false;
-    while at < text.len() {
-        let c = text[at];
+    for (i, c) in tail.iter().enumerate() {
         if remark {
-            remark = c != b'\n';
-            at += 1;
+            remark = *c != b'\n';
             continue;
         }
-        if c == b'.' {
-            return at + 1;
+        if *c == b'.' {
+            return from + (i + 1);
         }
-        remark = c == b'%';
-        at += 1;
+        remark = *c == b'%';
     }
-    at
+    from + tail.len()
 }
 
 // A clause, unless it is a question.
@@ -40,6 +38,7 @@ fn put_stated(out: &mut [u8], at: usize, clause: &[u8]) -> usize
 }
 
 // A text without its questions.
+#[tactic(auto, using(crate::proofs::Cutting::stated_laws))]
 pub fn stated(text: &[u8], out: &mut [u8]) -> usize
     ensures { Put out.old 0 (stated_text text.now) out.new result }
 {

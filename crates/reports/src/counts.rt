@@ -1,31 +1,12 @@
 // The season report in plain words: a line for each question with one for other tools, and the counts.
 ghost use Rattle.std.specs.Prelude.{◌≡◌};
 ghost use Rattle.text.specs.Put.{Put};
-ghost use Rattle.reports.specs.Counts.{sum_of, long_sum_of, added_report, ended_text, is_found, status_text, spent_text, asked_text, szs_question_text, title_text, found_counts_text, other_counts_text, last_counts_text, season_text, alone_report, one_report, no_question_text};
+ghost use Rattle.reports.specs.Counts.{added_report, ended_text, is_found, status_text, spent_text, asked_text, szs_question_text, title_text, found_counts_text, other_counts_text, last_counts_text, season_text, alone_report, one_report, no_question_text};
 
 use assistant::place;
 use hukolearu::{Outcome, status};
 use season::Report;
 use text::put;
-
-fn sum(a: u32, b: u32) -> u32
-    ensures { result ≡ sum_of a b }
-{
-    let both = a as u64 + b as u64;
-    if 4294967295 < both {
-        return 4294967295;
-    }
-    both as u32
-}
-
-fn long_sum(a: u64, b: u64) -> u64
-    ensures { result ≡ long_sum_of a b }
-{
-    if u64::MAX - a < b {
-        return u64::MAX;
-    }
-    a + b
-}
 
 // The counts of two reports together.
 pub fn added(a: Report, b: Report) -> Report
@@ -34,13 +15,13 @@ pub fn added(a: Report, b: Report) -> Report
     Report {
         status: a.status,
         place: a.place,
-        definite: sum(a.definite, b.definite),
-        indefinite: sum(a.indefinite, b.indefinite),
-        none: sum(a.none, b.none),
-        ranout: sum(a.ranout, b.ranout),
-        toolong: sum(a.toolong, b.toolong),
-        refused: sum(a.refused, b.refused),
-        tries: long_sum(a.tries, b.tries),
+        definite: a.definite.saturating_add(b.definite),
+        indefinite: a.indefinite.saturating_add(b.indefinite),
+        none: a.none.saturating_add(b.none),
+        ranout: a.ranout.saturating_add(b.ranout),
+        toolong: a.toolong.saturating_add(b.toolong),
+        refused: a.refused.saturating_add(b.refused),
+        tries: a.tries.saturating_add(b.tries),
     }
 }
 
@@ -69,6 +50,7 @@ fn only(
 }
 
 // The report of one question alone, by what its search came to.
+#[tactic(auto, using(crate::proofs::Counting::alone_laws))]
 pub fn alone(o: Outcome) -> Report
     ensures { result ≡ alone_report o }
 {
@@ -126,16 +108,11 @@ fn ended(out: &mut [u8], at: usize, r: Report) -> usize
     put::bytes(out, at, b"refused")
 }
 
+#[tactic(auto, unfolding(crate::specs::Counts::is_found))]
 fn found(r: Report) -> bool
     ensures { result ≡ is_found r }
 {
-    if r.definite == 1 {
-        return true;
-    }
-    if r.indefinite == 1 {
-        return true;
-    }
-    r.toolong == 1
+    r.definite == 1 || r.indefinite == 1 || r.toolong == 1
 }
 
 // The same in a word of the SZS ontology.

@@ -9,26 +9,27 @@ use Rattle.requests.specs.Pieces.{up_to, pieces, pieces_at, digit_of, value_from
 use Rattle.requests.specs.Bytes.{pair_of, bytes_of}
 use Rattle.requests.specs.Records.{slot_of, record_of, record_words}
 use Rattle.requests.specs.Rows as Rows
-use Rattle.requests.specs.Rows.{run_at, bytes_at, list_at, barred_at, field_at, ends_with, values_from, asks, values_asked}
+use Rattle.requests.specs.Rows.{list_at, bytes_at, barred_at, field_at, ends_with, values_from, asks, values_asked}
+use Rattle.requests.specs.declared.request.Field.TheVariants.{Number, Words, Records, Bytes}
 
 unfoldable opened : Unit {0}
-unfolding up_to pieces pieces_at digit_of value_from number_of number_at word_of same_bytes leading run_from slot_of record_of record_words pair_of bytes_of Rows.number_at run_at bytes_at list_at barred_at field_at ends_with values_from asks values_asked
+unfolding up_to pieces pieces_at digit_of value_from number_of number_at word_of same_bytes leading run_from slot_of record_of record_words pair_of bytes_of Rows.number_at list_at bytes_at barred_at field_at ends_with values_from asks values_asked
 opened = tt
 
 abbrev pub lookup : String → Bool
-lookup line = asks (bytes line) (bytes "lookup") (bytes "nw") (4294967295 ∷ 3 ∷ [])
+lookup line = asks (bytes line) (bytes "lookup") (Number 4294967295 ∷ Words 3 ∷ [])
 
 pub lookup_line : lookup "lookup 007 / -" ≡ true
 unfolding opened
 lookup_line = refl
 
-pub lookup_values : values_asked (bytes "lookup 007 / -") (bytes "lookup") (bytes "nw") (4294967295 ∷ 3 ∷ []) ≡ 7 ∷ 13 ∷ []
+pub lookup_values : values_asked (bytes "lookup 007 / -") (bytes "lookup") (Number 4294967295 ∷ Words 3 ∷ []) ≡ 7 ∷ 13 ∷ []
 unfolding opened
 lookup_values = refl
 
 -- the numbers, then the positions of the lists
 pub check_values :
-    values_asked (bytes "check 2 16384 9 / 40000000 1 / c 0") (bytes "check") (bytes "nnnww") (4294967295 ∷ 20000 ∷ 20000 ∷ 1024 ∷ 16100 ∷ [])
+    values_asked (bytes "check 2 16384 9 / 40000000 1 / c 0") (bytes "check") (Number 4294967295 ∷ Number 20000 ∷ Number 20000 ∷ Words 1024 ∷ Words 16100 ∷ [])
     ≡ 2 ∷ 16384 ∷ 9 ∷ 18 ∷ 31 ∷ []
 unfolding opened
 check_values = refl
@@ -46,7 +47,7 @@ pub large_number : lookup "lookup 4294967296 / -" ≡ false
 unfolding opened
 large_number = refl
 
-pub over_the_limit : asks (bytes "a 20001") (bytes "a") (bytes "n") (20000 ∷ []) ≡ false
+pub over_the_limit : asks (bytes "a 20001") (bytes "a") (Number 20000 ∷ []) ≡ false
 unfolding opened
 over_the_limit = refl
 
@@ -72,9 +73,9 @@ other_verb = refl
 
 -- the desk's records: two numbers and a slot
 abbrev pub desk : String → Bool
-desk line = asks (bytes line) (bytes "desk") (bytes "nr") (4294967295 ∷ 2 ∷ [])
+desk line = asks (bytes line) (bytes "desk") (Number 4294967295 ∷ Records 2 ∷ [])
 
-pub desk_values : values_asked (bytes "desk 5 / 12:3:m 007:4294967295:?") (bytes "desk") (bytes "nr") (4294967295 ∷ 2 ∷ []) ≡ 5 ∷ 9 ∷ []
+pub desk_values : values_asked (bytes "desk 5 / 12:3:m 007:4294967295:?") (bytes "desk") (Number 4294967295 ∷ Records 2 ∷ []) ≡ 5 ∷ 9 ∷ []
 unfolding opened
 desk_values = refl
 
@@ -116,9 +117,9 @@ hexadecimal_house = refl
 
 -- bytes run together
 abbrev pub text : String → Bool
-text line = asks (bytes line) (bytes "t") (bytes "nb") (16100 ∷ 3 ∷ [])
+text line = asks (bytes line) (bytes "t") (Number 16100 ∷ Bytes 3 ∷ [])
 
-pub text_values : values_asked (bytes "t 9 / 0aFf41") (bytes "t") (bytes "nb") (16100 ∷ 3 ∷ []) ≡ 9 ∷ 6 ∷ []
+pub text_values : values_asked (bytes "t 9 / 0aFf41") (bytes "t") (Number 16100 ∷ Bytes 3 ∷ []) ≡ 9 ∷ 6 ∷ []
 unfolding opened
 text_values = refl
 

@@ -1,197 +1,155 @@
 -- Digits and numbers in a line, one law for each outcome, with premises as the code has them.
-use mathlib.Core.Path.{◌≡◌, refl, sym, ◌∙◌}
+use mathlib.Core.Path.{◌≡◌, refl, sym, ap, ◌∙◌}
 use mathlib.Core.Bool.{Bool, true, false, cond}
 use mathlib.Core.List.{List, [], ◌∷◌}
-use mathlib.Core.Option.{Option, none, some}
-use Prim.Native.Nat.{ℕ, ◌+◌, ◌-◌, ◌*◌, ◌≤◌, ◌<◌}
-use native.Mathlib.Nat.{mul-le-mul_right}
+use Prim.Native.Nat.{ℕ, suc, ◌+◌, ◌*◌, ◌^◌, ◌≤◌, ◌<◌}
 use native.Mathlib.Omega.{arith}
-use lib.Dec.{leb}
-use lib.ListN.{length, drop, get_or, drop_of_length-le}
+use lib.Dec.{eqb, ltb}
+use lib.ListN.{length, drop, get_or, drop_of_length-le, length-drop}
 use mir.Syntax.{w64}
 use mir.Val.{Fits}
-use borrow.Author.Tests.{lt-ltb, le-ltb, le-leb, lt-leb, eq-eqb, ne_eqb}
-use Rattle.requests.specs.Pieces.{digit_of, up_to, piece_at, value_from, number_of, word_of, found, next_at, number_at, word_at}
-use Rattle.requests.specs.Reading.{said_before}
+use borrow.Author.Tests.{lt-ltb, le-ltb, le-leb, lt-leb}
+use Rattle.std.specs.Prelude.{Option, Some, None}
+use Rattle.std.specs.Option.{SomeIff}
+use Rattle.std.specs.Char.{digit_value}
+use Rattle.std.proofs.lemmas.Bool.Decides.{nat_tests}
+use Rattle.requests.specs.Pieces.{digit_of, up_to, piece_at, value_from, number_of, word_of, found, number_at, word_at}
 use Rattle.requests.specs.declared.piece.Number.{Number}
-use Rattle.requests.specs.declared.piece.Number.TheVariants.{Value, Bad}
 use Rattle.text.proofs.Written.{from_place}
 
+-- the bytes up to a mark are the first ones
+front_long : (b : Bool) (c : ℕ) (ds cs : List ℕ) → length ds ≤ length cs → length (cond b [] (c ∷ ds)) ≤ suc (length cs)
+front_long true c ds cs h = omega arith
+front_long false c ds cs h = omega arith
+
+pub front_length : (mark : ℕ) (cs : List ℕ) → length (up_to mark cs) ≤ length cs
+unfolding up_to
+front_length mark [] = omega arith
+front_length mark (c ∷ cs) = front_long (eqb c mark) c (up_to mark cs) cs (front_length mark cs)
+
 -- a digit
-module _ (c : ℕ) where
-  pub below_0 : c < 48 → 16 ≡ digit_of c
-  unfolding digit_of
-  below_0 h = rw (lt-ltb c 48 h)
+pub digit_same : (c : ℕ) → digit_of c ≡ cond (ltb (digit_value c) 16) (digit_value c) 16
+unfolding digit_of
+digit_same c = grind (arith, nat_tests)
 
-  module _ (a : 48 ≤ c) where
-    pub from_0 : c ≤ 57 → c - 48 ≡ digit_of c
-    unfolding digit_of
-    from_0 h = rw (le-ltb c 48 a, le-leb c 57 h)
+small : (c d : ℕ) → d ≡ digit_value c → d < 16 → digit_of c ≡ d
+small c d e h = digit_same c ∙ rw (← e, lt-ltb d 16 h)
 
-    module _ (b : 57 < c) where
-      pub below_A : c < 65 → 16 ≡ digit_of c
-      unfolding digit_of
-      below_A h = rw (le-ltb c 48 a, lt-leb c 57 b, lt-ltb c 65 h)
+large : (c d base : ℕ) → d ≡ digit_value c → base ≤ d → base ≤ 16 → base ≤ digit_of c
+large c d base e h b = let s = digit_same c in rw (digit_same c, ← e) (by (ltb d 16))
+  where
+    by : (t : Bool) → base ≤ cond t d 16
+    by true = h
+    by false = b
 
-      module _ (d : 65 ≤ c) where
-        pub from_A : c ≤ 70 → c - 55 ≡ digit_of c
-        unfolding digit_of
-        from_A h = rw (le-ltb c 48 a, lt-leb c 57 b, le-ltb c 65 d, le-leb c 70 h)
+pub digit_is : (c : ℕ) (o : Option ℕ) → SomeIff o (digit_value c < 16) (digit_value c) → SomeIff o (digit_of c < 16) (digit_of c)
+digit_is c None n = λ h. let l = large c (digit_value c) 16 refl (omega (arith, n)) (omega arith) in omega (arith, l, h)
+digit_is c (Some d) s = let e = small c (digit_value c) refl s.0 in (rw e s.0, s.1 ∙ sym e)
 
-        module _ (e : 70 < c) where
-          pub below_a : c < 97 → 16 ≡ digit_of c
-          unfolding digit_of
-          below_a h = rw (le-ltb c 48 a, lt-leb c 57 b, le-ltb c 65 d, lt-leb c 70 e, lt-ltb c 97 h)
+-- a number, digit by digit
+pub nothing_said : (base : ℕ) (digits : List ℕ) {e : Bool} → e ≡ eqb (length digits) 0 → e ≡ true → None ≡ number_of base digits
+unfolding number_of
+nothing_said base [] ee t = refl
+nothing_said base (c ∷ cs) ee t = let z : suc (length cs) ≡ 0 = zero_told (suc (length cs)) ee t in absurd (omega arith)
+  where
+    zero_told : (n : ℕ) {b : Bool} → b ≡ eqb n 0 → b ≡ true → n ≡ 0
+    zero_told n e t = grind (arith, nat_tests)
 
-          module _ (f : 97 ≤ c) where
-            pub from_a : c ≤ 102 → c - 87 ≡ digit_of c
-            unfolding digit_of
-            from_a h = rw (le-ltb c 48 a, lt-leb c 57 b, le-ltb c 65 d, lt-leb c 70 e, le-ltb c 97 f, le-leb c 102 h)
+is_number : (base : ℕ) (digits : List ℕ) {e : Bool} → e ≡ eqb (length digits) 0 → e ≡ false → value_from base 0 digits ≡ number_of base digits
+unfolding number_of
+is_number base [] ee f = let z : ◌≡◌ {A = Bool} true false = sym ee ∙ f in cc
+is_number base (c ∷ cs) ee f = refl
 
-            pub above_a : 102 < c → 16 ≡ digit_of c
-            unfolding digit_of
-            above_a h = rw (le-ltb c 48 a, lt-leb c 57 b, le-ltb c 65 d, lt-leb c 70 e, le-ltb c 97 f, lt-leb c 102 h)
+module _ (base : ℕ) (digits : List ℕ) (b : base ≤ 16) {e : Bool} (ee : e ≡ eqb (length digits) 0) (ef : e ≡ false) {i : ℕ} (value : ℕ)
+    (g : value_from base 0 digits ≡ value_from base value (drop i digits)) where
+  pub number_over : length digits ≤ i → Some value ≡ number_of base digits
+  unfolding value_from
+  number_over h = sym (g ∙ rw (drop_of_length-le digits h)) ∙ is_number base digits ee ef
 
-pub ruleset digit_laws = (below_0, from_0, below_A, from_A, below_a, from_a, above_a)
+  module _ (h : i < length digits) {c : ℕ} (ec : c ≡ get_or digits i 0) where
+    pub no_digit : (digit_value c < base → ⊥) → None ≡ number_of base digits
+    unfolding value_from
+    no_digit n =
+        let l = large c (digit_value c) base refl (omega (arith, n)) b in
+        sym (g ∙ rw (from_place digits i h, ← ec, le-leb base (digit_of c) l)) ∙ is_number base digits ee ef
 
--- what is left up to a mark
-module _ (mark : ℕ) (line : List ℕ) (at : ℕ) where
-  pub mark_over : length line ≤ at → up_to mark (drop at line) ≡ []
-  unfolding up_to
-  mark_over h = rw (drop_of_length-le line h)
+    module _ {d : ℕ} (s : (digit_value c < base) × (d ≡ digit_value c)) where
+      under : d < base
+      under = omega (arith, s.0, s.1)
 
-  module _ (h : at < length line) where
-    pub mark_met : get_or line at 0 ≡ mark → up_to mark (drop at line) ≡ []
-    unfolding up_to
-    mark_met e = rw (from_place line at h, eq-eqb (get_or line at 0) mark e)
+      said_there : digit_of c ≡ d
+      said_there = small c d s.1 (omega (arith, under))
 
-    pub mark_ahead : (get_or line at 0 ≡ mark → ⊥) → up_to mark (drop at line) ≡ get_or line at 0 ∷ up_to mark (drop (at + 1) line)
-    unfolding up_to
-    mark_ahead n = rw (from_place line at h, ne_eqb (get_or line at 0) mark n)
+      larger : 4294967295 < value * base + d → None ≡ number_of base digits
+      unfolding value_from
+      larger l =
+          sym (g ∙ rw (from_place digits i h, ← ec, said_there, lt-leb base d under, lt-ltb 4294967295 (value * base + d) l)) ∙ is_number base digits ee ef
 
--- a number is said where its digits end, and none where they do not go on
-said_is : (base from at value : ℕ) (p : List ℕ) → value_from base 0 p ≡ some value → from + length p ≡ at
-    → said_before from at value ≡ found (from + length p + 1) (number_of base p)
-unfolding said_before number_of
-said_is base from at value [] e l = rw (eq-eqb at from (omega arith))
-said_is base from at value (c ∷ cs) e l = rw (ne_eqb at from (λ q. omega arith), e, l)
+      pub product_large : (value * base < 2 ^ 32 → ⊥) → None ≡ number_of base digits
+      product_large n = larger (omega (arith, n))
 
-none_said : (base next : ℕ) (p : List ℕ) → value_from base 0 p ≡ none → Bad ≡ found next (number_of base p)
-unfolding number_of value_from
-none_said base next [] e = let z : ◌≡◌ {A = ℕ} 0 1 = cc in absurd (omega arith)
-none_said base next (c ∷ cs) e = rw e
+      module _ {m : ℕ} (p : (value * base < 2 ^ 32) × (m ≡ value * base)) where
+        pub sum_large : (m + d < 2 ^ 32 → ⊥) → None ≡ number_of base digits
+        sum_large n = let l : 4294967295 < m + d = omega (arith, n) in larger (rw p.1 at l)
 
-pub nothing_said : (from at value : ℕ) → at ≡ from → Bad ≡ said_before from at value
-unfolding said_before
-nothing_said from at value e = rw (eq-eqb at from e)
-
-pub value_said : (from at value : ℕ) → (at ≡ from → ⊥) → Value value (at + 1) ≡ said_before from at value
-unfolding said_before
-value_said from at value n = rw (ne_eqb at from n)
-
--- how far a number has been read
-pub record Reading (mark base : ℕ) (line : List ℕ) (from at value : ℕ) : Type 0 where
-  pub low : from ≤ at
-  pub high : at ≤ length line
-  pub small : value ≤ 4294967295
-  pub values : value_from base 0 (up_to mark (drop from line)) ≡ value_from base value (up_to mark (drop at line))
-  pub places : from + length (up_to mark (drop from line)) ≡ at + length (up_to mark (drop at line))
-
-module _ (mark base : ℕ) (line : List ℕ) (from : ℕ) where
-  pub past_line : length line < from → Bad ≡ number_at mark base line from
-  unfolding number_at number_of
-  past_line h = rw (mark_over mark line from (omega arith))
-
-  pub reading_begins : from ≤ length line → Reading mark base line from from 0
-  reading_begins h = record { low = omega arith; high = h; small = omega arith; values = refl; places = refl }
-
-module _ {mark base : ℕ} {line : List ℕ} {from at value : ℕ} (g : Reading mark base line from at value) where
-  ends : up_to mark (drop at line) ≡ [] → {r : Number} → r ≡ said_before from at value → r ≡ number_at mark base line from
-  unfolding number_at value_from
-  ends e er =
-      er
-      ∙ said_is base from at value (up_to mark (drop from line)) (rw e at g.values) (let l = rw e at g.places in omega arith)
-
-  pub product_fits : base ≤ 16 → Fits w64 (value * base)
-  product_fits b = record { fits = let m = mul-le-mul_right base g.small in omega arith }
-
-  pub line_over : length line ≤ at → {r : Number} → r ≡ said_before from at value → r ≡ number_at mark base line from
-  line_over h er = ends (mark_over mark line at h) er
-
-  module _ (h : at < length line) where
-    pub mark_reached : get_or line at 0 ≡ mark → {r : Number} → r ≡ said_before from at value → r ≡ number_at mark base line from
-    mark_reached s er = ends (mark_met mark line at h s) er
-
-    module _ (n : get_or line at 0 ≡ mark → ⊥) {d : ℕ} (ed : d ≡ digit_of (get_or line at 0)) where
-      pub no_digit : base ≤ d → Bad ≡ number_at mark base line from
-      unfolding number_at value_from
-      no_digit k =
-          none_said base _ (up_to mark (drop from line))
-          (g.values ∙ rw (mark_ahead mark line at h n, ← ed, le-leb base d k))
-
-      module _ (k : d < base) where
-        pub sum_fits : base ≤ 16 → Fits w64 (value * base + d)
-        sum_fits b = record { fits = let m = mul-le-mul_right base g.small in omega arith }
-
-        pub too_large : 4294967295 < value * base + d → Bad ≡ number_at mark base line from
-        unfolding number_at value_from
-        too_large t =
-            none_said base _ (up_to mark (drop from line))
-            (g.values ∙ rw (mark_ahead mark line at h n, ← ed, lt-leb base d k, lt-ltb 4294967295 (value * base + d) t))
-
-        pub reading_on : value * base + d ≤ 4294967295 → Reading mark base line from (at + 1) (value * base + d)
+        pub digit_on : {v : ℕ} → (m + d < 2 ^ 32) × (v ≡ m + d) → value_from base 0 digits ≡ value_from base v (drop (i + 1) digits)
         unfolding value_from
-        reading_on t = record {
-          low = omega (arith, g.low);
-          high = omega arith;
-          small = t;
-          values = g.values ∙ rw (mark_ahead mark line at h n, ← ed, lt-leb base d k, le-ltb 4294967295 (value * base + d) t);
-          places = let p = rw (mark_ahead mark line at h n) at g.places in omega arith;
-        }
-
-pub ruleset number_laws = (past_line, reading_begins, product_fits, sum_fits, line_over, mark_reached, no_digit, too_large, reading_on)
+        digit_on q =
+            let l : value * base + d ≤ 4294967295 = let k : m + d ≤ 4294967295 = omega (arith, q.0) in rw p.1 at k in
+            g ∙ rw (from_place digits i h, ← ec, said_there, lt-leb base d under, le-ltb 4294967295 (value * base + d) l, q.1, p.1)
 
 -- what a piece says, by cases
-pub found_none : (next : ℕ) (o : Option ℕ) → found next o ≡ Bad → o ≡ none
-found_none next none e = refl
-found_none next (some v) e = let z : ◌≡◌ {A = ℕ} 0 1 = cc in absurd (omega arith)
+pub found_none : (next : ℕ) (o : Option ℕ) → found next o ≡ None → o ≡ None
+found_none next None e = refl
+found_none next (Some v) e = cc
 
-pub found_value : (next : ℕ) (o : Option ℕ) {v n : ℕ} → found next o ≡ Value v n → o ≡ some v
-found_value next none e = let z : ◌≡◌ {A = ℕ} 0 1 = cc in absurd (omega arith)
-found_value next (some w) e = cc
+pub found_value : (next : ℕ) (o : Option ℕ) {n : Number} → found next o ≡ Some n → o ≡ Some n.value
+found_value next None e = cc
+found_value next (Some w) {n} e = let r : record { value = w; next = next } ≡ n = cc in rw (← r)
 
-pub found_next : (next : ℕ) (o : Option ℕ) {v n : ℕ} → found next o ≡ Value v n → n ≡ next
-found_next next none e = let z : ◌≡◌ {A = ℕ} 0 1 = cc in absurd (omega arith)
-found_next next (some w) e = cc
+-- a number or a word, and what comes next
+module _ (mark base : ℕ) (line : List ℕ) (at : ℕ) {own : List ℕ} (eo : own ≡ up_to mark (drop at line)) where
+  pub no_number : None ≡ number_of base own → None ≡ number_at mark base line at
+  unfolding number_at
+  no_number e = rw (← eo, ← e)
 
-never : (b : Bool) {o : Option ℕ} → o ≡ none → cond b o none ≡ none
-never true e = e
-never false e = refl
+  pub a_number : {v : ℕ} → Some v ≡ number_of base own → Some (record { value = v; next = at + length own + 1 }) ≡ number_at mark base line at
+  unfolding number_at
+  a_number e = rw (← eo, ← e)
 
--- a word is a number of few digits
-module _ (line : List ℕ) (at : ℕ) {q : Number} (eq : q ≡ number_at 32 16 line at) where
-  pub no_word : q ≡ Bad → Bad ≡ word_at line at
-  unfolding word_at word_of number_at
-  no_word b = rw (never (leb (length (piece_at line at)) 8) (found_none (next_at line at) (number_of 16 (piece_at line at)) (sym eq ∙ b)))
+module _ (line : List ℕ) (at : ℕ) {own : List ℕ} (eo : own ≡ piece_at line at) where
+  pub no_word : None ≡ word_of own → None ≡ word_at line at
+  unfolding word_at
+  no_word e = rw (← eo, ← e)
 
-  module _ {v next : ℕ} (e : q ≡ Value v next) where
-    says : number_of 16 (piece_at line at) ≡ some v
-    unfolding number_at
-    says = found_value (next_at line at) (number_of 16 (piece_at line at)) (sym eq ∙ e)
+  pub a_word : {v : ℕ} → Some v ≡ word_of own → Some (record { value = v; next = at + length own + 1 }) ≡ word_at line at
+  unfolding word_at
+  a_word e = rw (← eo, ← e)
 
-    goes : next ≡ next_at line at
-    unfolding number_at
-    goes = found_next (next_at line at) (number_of 16 (piece_at line at)) (sym eq ∙ e)
+pub word_long : (p : List ℕ) → 8 < length p → None ≡ word_of p
+unfolding word_of
+word_long p h = rw (lt-leb (length p) 8 h)
 
-    pub word_after : at ≤ next
-    word_after = omega (arith, goes)
+pub word_short : (p : List ℕ) → length p ≤ 8 → number_of 16 p ≡ word_of p
+unfolding word_of
+word_short p h = rw (le-leb (length p) 8 h)
 
-    pub word_long : 9 < next - at → Bad ≡ word_at line at
-    unfolding word_at word_of
-    word_long h = rw (lt-leb (length (piece_at line at)) 8 (omega (arith, goes)))
+-- a number stands within the line
+module _ (said : List ℕ → Option ℕ) (empty : said [] ≡ None) (mark : ℕ) (line : List ℕ) (at : ℕ) {own : List ℕ} (eo : own ≡ up_to mark (drop at line)) {v : ℕ} (er : Some v ≡ said own) where
+  pub said_within : at + length own ≤ length line
+  said_within = by own er (rw eo (front_length mark (drop at line)))
+    where
+      by : (p : List ℕ) → Some v ≡ said p → length p ≤ length (drop at line) → at + length p ≤ length line
+      by [] e h = let z : ◌≡◌ {A = Option ℕ} (Some v) None = e ∙ empty in cc
+      by (c ∷ cs) e h = omega (arith, h, length-drop at line)
 
-    pub word_short : next - at ≤ 9 → Value v next ≡ word_at line at
-    unfolding word_at word_of
-    word_short h = rw (le-leb (length (piece_at line at)) 8 (omega (arith, goes)), says, goes)
+pub number_empty : (base : ℕ) → number_of base [] ≡ None
+unfolding number_of
+number_empty base = refl
 
-pub ruleset word_laws = (no_word, word_after, word_long, word_short)
+pub word_empty : word_of [] ≡ None
+unfolding word_of number_of
+word_empty = refl
+
+pub end_fits : (mark : ℕ) (line : List ℕ) (from : ℕ) {own : List ℕ} → own ≡ up_to mark (drop from line) → Fits w64 from → length line < 2 ^ 63 → Fits w64 (from + length own)
+end_fits mark line from e f k = record { fits = omega (arith, f.fits, ap (λ (l : List ℕ). length l) e, front_length mark (drop from line), length-drop from line) }

@@ -16,21 +16,19 @@ use Rattle.requests.specs.Pieces.{digit_of}
 use Rattle.requests.specs.Bytes.{pair_of, bytes_of}
 
 -- two digits
-module _ (a b : ℕ) {h : ℕ} (eh : h ≡ digit_of a) where
-  pub no_high : 16 ≤ h → 256 ≡ pair_of a b
+module _ (a b : ℕ) where
+  pub no_high : (digit_of a < 16 → ⊥) → pair_of a b < 256 → ⊥
   unfolding pair_of
-  no_high k = rw (← eh, le-leb 16 h k)
+  no_high n = rw (le-leb 16 (digit_of a) (omega (arith, n))) (λ h. omega (arith, h))
 
-  module _ (k : h < 16) {l : ℕ} (el : l ≡ digit_of b) where
-    pub no_low : 16 ≤ l → 256 ≡ pair_of a b
+  module _ {high : ℕ} (h : (digit_of a < 16) × (high ≡ digit_of a)) where
+    pub no_low : (digit_of b < 16 → ⊥) → pair_of a b < 256 → ⊥
     unfolding pair_of
-    no_low m = rw (← eh, ← el, lt-leb 16 h k, le-leb 16 l m)
+    no_low n = rw (lt-leb 16 (digit_of a) h.0, le-leb 16 (digit_of b) (omega (arith, n))) (λ k. omega (arith, k))
 
-    pub pair_said : l < 16 → h * 16 + l ≡ pair_of a b
+    pub pair_said : {low : ℕ} → (digit_of b < 16) × (low ≡ digit_of b) → (pair_of a b < 256) × (high * 16 + low ≡ pair_of a b)
     unfolding pair_of
-    pair_said m = rw (← eh, ← el, lt-leb 16 h k, lt-leb 16 l m)
-
-pub ruleset pair_laws = (no_high, no_low, pair_said)
+    pair_said l = rw (lt-leb 16 (digit_of a) h.0, lt-leb 16 (digit_of b) l.0) (omega (arith, h.0, l.0), rw (h.1, l.1))
 
 -- one digit alone is no byte
 short_bytes : (cs : List ℕ) → length cs < 2 → bytes_of cs ≡ []
@@ -54,14 +52,17 @@ module _ {first : List ℕ} {from : ℕ} {whole out : List ℕ} {used : ℕ} (li
     pub digit_alone : length line - at < 2 → Put first from whole out used
     digit_alone k = finish (rw (short_bytes (drop at line) (omega (arith, length-drop at line))) at l)
 
-    module _ (k : 2 ≤ length line - at) {v : ℕ} (e : v ≡ pair_of (get_or line at 0) (get_or line (at + 1) 0)) where
-      pub bytes_end : 256 ≤ v → Put first from whole out used
+    module _ (k : 2 ≤ length line - at) where
+      pub bytes_end : (pair_of (get_or line at 0) (get_or line (at + 1) 0) < 256 → ⊥) → Put first from whole out used
       unfolding bytes_of
-      bytes_end m = finish (rw (two_places line at h k, ← e, le-ltb v 256 m) at l)
+      bytes_end n =
+          let v = pair_of (get_or line at 0) (get_or line (at + 1) 0) in
+          finish (rw (two_places line at h k, le-ltb v 256 (omega (arith, n))) at l)
 
-      pub bytes_on : v < 256 → {out' : List ℕ} {used' : ℕ} → Put out used (v ∷ []) out' used' → Left first from whole out' used' (bytes_of (drop (at + 2) line))
+      pub bytes_on : {v : ℕ} → (pair_of (get_or line at 0) (get_or line (at + 1) 0) < 256) × (v ≡ pair_of (get_or line at 0) (get_or line (at + 1) 0))
+          → {out' : List ℕ} {used' : ℕ} → Put out used (v ∷ []) out' used' → Left first from whole out' used' (bytes_of (drop (at + 2) line))
       unfolding bytes_of
-      bytes_on m p = further (v ∷ []) (bytes_of (drop (at + 2) line)) (rw (two_places line at h k, ← e, lt-ltb v 256 m) at l) p
+      bytes_on {v} m p = further (v ∷ []) (bytes_of (drop (at + 2) line)) (rw (two_places line at h k, lt-ltb _ 256 m.0, ← m.1) at l) p
 
 pub ruleset bytes_laws = (bytes_over, digit_alone, bytes_end, bytes_on)
 

@@ -1,5 +1,5 @@
 pub mod Bytes
+pub mod Listed
 pub mod Pieces
-pub mod Reading
 pub mod Records
 pub mod Rows

@@ -1,9 +1,7 @@
 -- The pieces of a line, which are separated by single spaces, and what they say.
-use Rattle.std.specs.Prelude.{Bool, true, false, cond, ◌&&◌, List, [], ◌∷◌, ℕ, zero, suc, ◌+◌, ◌-◌, ◌*◌, eqb, leb, ltb, length, drop}
-use Rattle.std.proofs.Math.Option.{Option, none, some}
+use Rattle.std.specs.Prelude.{Bool, true, false, cond, ◌&&◌, List, [], ◌∷◌, ℕ, zero, suc, ◌+◌, ◌-◌, ◌*◌, Option, Some, None, eqb, leb, ltb, length, drop}
 use Rattle.requests.specs.declared.piece.Number.{Number}
-use Rattle.requests.specs.declared.piece.Number.TheVariants.{Value, Bad}
-use Rattle.requests.specs.declared.piece.Run.{Run}
+use Rattle.requests.specs.declared.listed.Run.{Run}
 
 -- `0` to `9`, `A` to `F` or `a` to `f`; 16: no digit
 unfoldable pub digit_of : ℕ → ℕ
@@ -39,19 +37,19 @@ pieces_at (c ∷ cs) (suc at) = pieces_at cs at
 
 -- the number that digits of a base go on to say; none where a byte is no digit, or the number is over 4294967295
 unfoldable pub value_from : ℕ → ℕ → List ℕ → Option ℕ
-value_from base value [] = some value
+value_from base value [] = Some value
 value_from base value (c ∷ cs) =
-    cond (leb base (digit_of c)) none
-    (cond (ltb 4294967295 (value * base + digit_of c)) none (value_from base (value * base + digit_of c) cs))
+    cond (leb base (digit_of c)) None
+    (cond (ltb 4294967295 (value * base + digit_of c)) None (value_from base (value * base + digit_of c) cs))
 
 -- a number has one digit or more
 unfoldable pub number_of : ℕ → List ℕ → Option ℕ
-number_of base [] = none
+number_of base [] = None
 number_of base (c ∷ cs) = value_from base 0 (c ∷ cs)
 
 -- a word has one to eight hexadecimal digits
 unfoldable pub word_of : List ℕ → Option ℕ
-word_of p = cond (leb (length p) 8) (number_of 16 p) none
+word_of p = cond (leb (length p) 8) (number_of 16 p) None
 
 -- what stands at a position of a line; the next piece begins after the space
 abbrev pub piece_at : List ℕ → ℕ → List ℕ
@@ -60,18 +58,18 @@ piece_at line at = piece (drop at line)
 abbrev pub next_at : List ℕ → ℕ → ℕ
 next_at line at = at + length (piece_at line at) + 1
 
-abbrev pub found : ℕ → Option ℕ → Number
-found next none = Bad
-found next (some value) = Value value next
+abbrev pub found : ℕ → Option ℕ → Option Number
+found next None = None
+found next (Some value) = Some (record { value = value; next = next })
 
 -- a number goes up to a mark, and what comes next begins after the mark
-unfoldable pub number_at : ℕ → ℕ → List ℕ → ℕ → Number
+unfoldable pub number_at : ℕ → ℕ → List ℕ → ℕ → Option Number
 number_at mark base line at = found (at + length (up_to mark (drop at line)) + 1) (number_of base (up_to mark (drop at line)))
 
-abbrev pub decimal_at : ℕ → List ℕ → ℕ → Number
+abbrev pub decimal_at : ℕ → List ℕ → ℕ → Option Number
 decimal_at mark line at = number_at mark 10 line at
 
-unfoldable pub word_at : List ℕ → ℕ → Number
+unfoldable pub word_at : List ℕ → ℕ → Option Number
 word_at line at = found (next_at line at) (word_of (piece_at line at))
 
 -- the same bytes
@@ -83,16 +81,16 @@ same_bytes (a ∷ cs) (b ∷ bs) = eqb a b && same_bytes cs bs
 
 -- the words that the pieces begin with
 abbrev pub before : Option ℕ → List ℕ → List ℕ
-before none ws = []
-before (some w) ws = w ∷ ws
+before None ws = []
+before (Some w) ws = w ∷ ws
 
 unfoldable pub leading : List (List ℕ) → List ℕ
 leading [] = []
 leading (p ∷ ps) = before (word_of p) (leading ps)
 
-abbrev pub present : Option ℕ → Bool
-present none = false
-present (some w) = true
+abbrev pub present : {T : Type 0} → Option T → Bool
+present None = false
+present (Some w) = true
 
 abbrev pub is_word : List ℕ → Bool
 is_word p = present (word_of p)

@@ -1,24 +1,19 @@
 // Bytes in a line: two hexadecimal digits each, run together.
-ghost use Rattle.std.specs.Prelude.{◌≡◌, length, drop};
+ghost use Rattle.std.specs.Prelude.{◌≡◌, ◌<◌, length, drop};
+ghost use Rattle.std.specs.Option.{SomeIff};
 ghost use Rattle.requests.specs.Bytes.{pair_of, bytes_of};
 ghost use Rattle.text.specs.Put.{Put};
 
 use crate::piece;
 use text::put;
 
-// What two digits stand for; 256: no byte.
-fn pair(a: u8, b: u8) -> u64
-    ensures { result ≡ pair_of a b }
+// The byte that two digits stand for.
+fn pair(a: u8, b: u8) -> Option<u8>
+    ensures { SomeIff result (pair_of a b < 256) (pair_of a b) }
 {
-    let high = piece::digit(a);
-    if high >= 16 {
-        return 256;
-    }
-    let low = piece::digit(b);
-    if low >= 16 {
-        return 256;
-    }
-    high * 16 + low
+    let high = piece::digit(a)?;
+    let low = piece::digit(b)?;
+    Some((high * 16 + low) as u8)
 }
 
 // The bytes from a position on, put at the front of a buffer.
@@ -31,11 +26,10 @@ pub fn gather(line: &[u8], from: usize, out: &mut [u8]) -> usize
         if line.len() - at < 2 {
             return used;
         }
-        let said = pair(line[at], line[at + 1]);
-        if said >= 256 {
+        let Some(said) = pair(line[at], line[at + 1]) else {
             return used;
-        }
-        used = put::byte(out, used, said as u8);
+        };
+        used = put::byte(out, used, said);
         at += 2;
     }
     used

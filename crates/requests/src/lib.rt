@@ -2,6 +2,7 @@
 #![tactic(auto)]
 
 pub mod bytes;
+pub mod listed;
 pub mod piece;
 pub mod records;
 pub mod request;

@@ -1,157 +1,143 @@
-// A request of the line protocol: a verb, and the fields of its row. A row is told by a letter for each field, `n` for a number,
-// `w` for a list of words, `r` for one of records and `b` for one of bytes, and by the most that each may be: a number's limit, a list's length.
+// A request of the line protocol: a verb, and the fields of its row.
 ghost use Rattle.std.specs.Prelude.{◌≡◌, min, get_or};
 ghost use Rattle.text.specs.Put.{put};
-ghost use Rattle.requests.specs.Rows.{number_at, counted, words_at, records_at, bytes_at, list_at, barred_at, field_at, ends_with, values_from, asks, values_asked};
+ghost use Rattle.requests.specs.Rows.{number_at, counted, list_at, bytes_at, barred_at, field_at, ends_with, values_from, asks, values_asked};
 
-use crate::piece::{Number, Run};
+use crate::listed::Run;
 use crate::{bytes, piece, records};
 use text::put;
 use words::fields::wide;
 
-// What a field says, and where the piece after it begins. A list is told by the position where it begins.
-#[derive(Drop)]
-pub enum Value {
-    Said(usize, usize),
-    Missing,
+// A field of a row, with the most that it may be: a number's limit, a list's length.
+#[derive(Clone, Copy)]
+pub enum Field {
+    Number(u32),
+    Words(u32),
+    Records(u32),
+    Bytes(u32),
+    // A kind that is none of these: no line says it.
+    Unknown,
 }
 
-fn number(line: &[u8], at: usize, limit: u32) -> Value
+// What a field says, and where the piece after it begins. A list is told by the position where it begins.
+#[derive(Clone, Copy)]
+pub struct Said {
+    pub value: usize,
+    pub next: usize,
+}
+
+fn number(line: &[u8], at: usize, limit: u32) -> Option<Said>
     ensures { result ≡ number_at limit line.now at }
 {
-    let said = piece::decimal(line, at, b' ');
-    let Number::Value(n, next) = said else {
-        return Value::Missing;
-    };
-    if limit < n {
-        return Value::Missing;
+    let said = piece::decimal(line, at, b' ')?;
+    if limit < said.value {
+        return None;
     }
-    Value::Said(n as usize, next)
+    Some(Said {
+        value: said.value as usize,
+        next: said.next,
+    })
 }
 
 // So many, and not none.
-fn counted(at: usize, room: usize, run: Run) -> Value
+fn counted(at: usize, room: usize, run: Run) -> Option<Said>
     ensures { result ≡ counted room at run }
 {
-    let count = run.count;
-    if count == 0 {
-        return Value::Missing;
+    if run.count == 0 || room < run.count {
+        return None;
     }
-    if room < count {
-        return Value::Missing;
-    }
-    Value::Said(at, run.next)
+    Some(Said {
+        value: at,
+        next: run.next,
+    })
 }
 
-fn words(line: &[u8], at: usize, room: usize) -> Value
-    ensures { result ≡ words_at room line.now at }
+// A list of pieces, whose run is at hand: `-` stands for none.
+fn list(line: &[u8], at: usize, room: usize, run: Run) -> Option<Said>
+    ensures { result ≡ list_at room line.now at run }
 {
     if piece::is(line, at, b"-") {
-        return Value::Said(at, at + 2);
+        return Some(Said {
+            value: at,
+            next: at + 2,
+        });
     }
-    counted(at, room, piece::words(line, at))
-}
-
-fn records(line: &[u8], at: usize, room: usize) -> Value
-    ensures { result ≡ records_at room line.now at }
-{
-    if piece::is(line, at, b"-") {
-        return Value::Said(at, at + 2);
-    }
-    counted(at, room, records::records(line, at))
+    counted(at, room, run)
 }
 
 // The piece is nothing but bytes.
-fn bytes(line: &[u8], at: usize, room: usize) -> Value
+fn bytes(line: &[u8], at: usize, room: usize) -> Option<Said>
     ensures { result ≡ bytes_at room line.now at }
 {
     if piece::is(line, at, b"-") {
-        return Value::Said(at, at + 2);
+        return Some(Said {
+            value: at,
+            next: at + 2,
+        });
     }
     let count = bytes::count(line, at);
-    if count == 0 {
-        return Value::Missing;
+    let long = piece::piece(line, at).len();
+    if count == 0 || long != count * 2 || room < count {
+        return None;
     }
-    let end = piece::end_of(line, at, b' ');
-    if end - at != count * 2 {
-        return Value::Missing;
-    }
-    if room < count {
-        return Value::Missing;
-    }
-    Value::Said(at, end + 1)
+    Some(Said {
+        value: at,
+        next: at + long + 1,
+    })
 }
 
-fn list(line: &[u8], at: usize, letter: u8, room: usize) -> Value
-    ensures { result ≡ list_at line.now at letter room }
-{
-    if letter == b'w' {
-        return words(line, at, room);
-    }
-    if letter == b'r' {
-        return records(line, at, room);
-    }
-    if letter == b'b' {
-        return bytes(line, at, room);
-    }
-    Value::Missing
-}
-
-// A list comes after a bar.
-fn barred(line: &[u8], at: usize, letter: u8, room: usize) -> Value
-    ensures { result ≡ barred_at line.now at letter room }
+// A list comes after a bar: where it begins.
+fn barred(line: &[u8], at: usize) -> Option<usize>
+    ensures { result ≡ barred_at line.now at }
 {
     if piece::is(line, at, b"/") {
-        return list(line, at + 2, letter, room);
+        return Some(at + 2);
     }
-    Value::Missing
+    None
 }
 
-fn field(line: &[u8], at: usize, letter: u8, most: u32) -> Value
-    ensures { result ≡ field_at line.now at letter most }
+fn read_field(line: &[u8], at: usize, kind: Field) -> Option<Said>
+    ensures { result ≡ field_at line.now at kind }
 {
-    if letter == b'n' {
-        return number(line, at, most);
+    match kind {
+        Field::Number(limit) => number(line, at, limit),
+        Field::Words(room) => {
+            let at = barred(line, at)?;
+            list(line, at, wide(room), piece::words(line, at))
+        }
+        Field::Records(room) => {
+            let at = barred(line, at)?;
+            list(line, at, wide(room), records::records(line, at))
+        }
+        Field::Bytes(room) => bytes(line, barred(line, at)?, wide(room)),
+        Field::Unknown => None,
     }
-    barred(line, at, letter, wide(most))
-}
-
-fn most_at(limits: &[u32], i: usize) -> u32
-    ensures { result ≡ get_or limits.now i 0 }
-{
-    if i < limits.len() {
-        return limits[i];
-    }
-    0
 }
 
 // The fields of a row from a position on, with which the line ends. Their values are put at the front of a buffer.
-fn read(line: &[u8], from: usize, row: &[u8], limits: &[u32], values: &mut [usize]) -> bool
-    ensures value { result ≡ ends_with line.now from row.now limits.now }
-    ensures values_after { values.new ≡ put values.old 0 (values_from line.now from row.now limits.now) }
+fn read(line: &[u8], from: usize, row: &[Field], values: &mut [usize]) -> bool
+    ensures value { result ≡ ends_with line.now from row.now }
+    ensures values_after { values.new ≡ put values.old 0 (values_from line.now from row.now) }
 {
     let mut at = from;
     let mut used = 0;
-    let mut i = 0;
-    while i < row.len() {
-        let said = field(line, at, row[i], most_at(limits, i));
-        let Value::Said(value, next) = said else {
+    for kind in row {
+        let Some(said) = read_field(line, at, *kind) else {
             return false;
         };
-        used = put::place(values, used, value);
-        at = next;
-        i += 1;
+        used = put::place(values, used, said.value);
+        at = said.next;
     }
     line.len() < at
 }
 
 // The line is a request with this verb and this row.
-pub fn asks(line: &[u8], verb: &[u8], row: &[u8], limits: &[u32], values: &mut [usize]) -> bool
-    ensures value { result ≡ asks line.now verb.now row.now limits.now }
-    ensures values_after { values.new ≡ put values.old 0 (values_asked line.now verb.now row.now limits.now) }
+pub fn asks(line: &[u8], verb: &[u8], row: &[Field], values: &mut [usize]) -> bool
+    ensures value { result ≡ asks line.now verb.now row.now }
+    ensures values_after { values.new ≡ put values.old 0 (values_asked line.now verb.now row.now) }
 {
     if piece::is(line, 0, verb) {
-        return read(line, verb.len() + 1, row, limits, values);
+        return read(line, verb.len() + 1, row, values);
     }
     false
 }
@@ -160,19 +146,12 @@ pub fn asks(line: &[u8], verb: &[u8], row: &[u8], limits: &[u32], values: &mut [
 pub fn place(values: &[usize], i: usize) -> usize
     ensures { result ≡ get_or values.now i 0 }
 {
-    if i < values.len() {
-        return values[i];
-    }
-    0
+    values.get(i).copied().unwrap_or(0)
 }
 
 // The same as a word.
 pub fn word(values: &[usize], i: usize) -> u32
     ensures { result ≡ min (get_or values.now i 0) 4294967295 }
 {
-    let n = place(values, i);
-    if n < 4294967295 {
-        return n as u32;
-    }
-    4294967295
+    u32::try_from(place(values, i)).unwrap_or(u32::MAX)
 }

@@ -19,16 +19,15 @@ use Rattle.rules.specs.Setting.{one_way, read_steps}
 use Rattle.rules.specs.Machinery.Play.{check, search_for}
 use Rattle.hukolearu.specs.Door.{Fault, first_fault, checks, behind, entry_of}
 use Rattle.hukolearu.specs.Calls.{refused, refused_by, search_given, check_given, SearchAsked, inputs_by, search_by, CheckAsked, check_inputs, check_by}
-use Rattle.hukolearu.specs.declared.door.Entry.{Entry}
-use Rattle.hukolearu.specs.declared.door.Entry.TheVariants.{Open, Refused}
+use Rattle.std.specs.Prelude as Prelude
+use Rattle.std.specs.Prelude.{Some, None, Result, Ok, Err}
+use Rattle.hukolearu.specs.declared.door.Refusal.{Refusal}
 use Rattle.hukolearu.specs.declared.door.Inputs.{Inputs}
 use Rattle.hukolearu.proofs.DoorLaws.{passed, opened, fault_met, inside, further_checks, refused_before}
 use Rattle.education.specs.Education.{education_by, education_check_by}
 use Rattle.restart.specs.Conclusions.{first_negative}
 use Rattle.restart.specs.Restart.{refused_at, restart_checks, missing_for, search_setting, check_setting, search_on, check_on}
 use Rattle.restart.specs.Walking.{unconcluded, conclusions_of}
-use Rattle.restart.specs.declared.conclusions.Conclusions.{Conclusions}
-use Rattle.restart.specs.declared.conclusions.Conclusions.TheVariants.{Each, Missing}
 use Rattle.restart.proofs.Meaning.{judged_walk}
 
 -- a clause that is missing a conclusion begins within the body
@@ -48,11 +47,11 @@ module _ (question : ℕ) where
       (λ k. missing-within (at + 1) (following_of w) ws k) e in
       omega arith
 
-conclusion_missing : (o : Option ℕ) {place : ℕ} → conclusions_of o ≡ Missing place → o ≡ some place
+conclusion_missing : (o : Option ℕ) {place : ℕ} → conclusions_of o ≡ Some place → o ≡ some place
 conclusion_missing none e = let z : ◌≡◌ {A = ℕ} 0 1 = cc in absurd (omega arith)
 conclusion_missing (some p) {place} e = let same : p ≡ place = cc in ap some same
 
-conclusion_each : (o : Option ℕ) → conclusions_of o ≡ Each → o ≡ none
+conclusion_each : (o : Option ℕ) → conclusions_of o ≡ None → o ≡ none
 conclusion_each none e = refl
 conclusion_each (some p) e = let z : ◌≡◌ {A = ℕ} 0 1 = cc in absurd (omega arith)
 
@@ -81,14 +80,14 @@ module _ (f : List ℕ) (i : Inputs) where
       by none k e = further_checks (checks f i) (refused_at (first_negative f) ∷ []) k ∙ rw (e, k)
       by (some fault) k e = refused_before (checks f i) (refused_at (first_negative f) ∷ []) k ∙ sym k
 
-  module _ {r : Conclusions} (says : r ≡ conclusions_of (missing_for f i)) where
-    pub missing_place : {place : ℕ} → r ≡ Missing place → missing_for f i ≡ some place
+  module _ {r : Prelude.Option ℕ} (says : r ≡ conclusions_of (missing_for f i)) where
+    pub missing_place : {place : ℕ} → r ≡ Some place → missing_for f i ≡ some place
     missing_place e = conclusion_missing (missing_for f i) (sym says ∙ e)
 
-    pub none_missing : r ≡ Each → missing_for f i ≡ none
+    pub none_missing : r ≡ None → missing_for f i ≡ none
     none_missing e = conclusion_each (missing_for f i) (sym says ∙ e)
 
-    pub missing_fits : {place : ℕ} → r ≡ Missing place → Fits w32 place
+    pub missing_fits : {place : ℕ} → r ≡ Some place → Fits w32 place
     missing_fits {place} e =
         let m = missing-told (missing_place e) in
         let ok = passed f i m.0 in
@@ -97,12 +96,12 @@ module _ (f : List ℕ) (i : Inputs) where
         omega (arith, length-take (length f - 4) f, (accepted f ok.good_file).most)
 
   -- what the door said
-  module _ {entry : Entry} (door : entry ≡ entry_of f i) where
-    pub shut_none : {status place : ℕ} → entry ≡ Refused status place → Each ≡ conclusions_of (missing_for f i)
+  module _ {entry : Result ℕ Refusal} (door : entry ≡ entry_of f i) where
+    pub shut_none : {refusal : Refusal} → entry ≡ Err refusal → None ≡ conclusions_of (missing_for f i)
     unfolding missing_for behind
     shut_none e = rw (fault_met f i door e)
 
-    pub open_judged : {question : ℕ} → entry ≡ Open question → {r : Conclusions} → r ≡ conclusions_of (first_negative f) → r ≡ conclusions_of (missing_for f i)
+    pub open_judged : {question : ℕ} → entry ≡ Ok question → {r : Prelude.Option ℕ} → r ≡ conclusions_of (first_negative f) → r ≡ conclusions_of (missing_for f i)
     unfolding missing_for
     open_judged e k = k ∙ sym (ap conclusions_of (inside (opened f i door e) (λ fault. none) (first_negative f)))
 

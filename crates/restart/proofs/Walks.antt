@@ -11,49 +11,19 @@ use lib.Seq.{drop-cons}
 use lib.Dec.{eqb}
 use borrow.Author.Tests.{not-true, not-false, eq-eqb, ne_eqb}
 use Rattle.words.specs.Fields.{following_of}
+use Rattle.std.specs.List.{list_any}
 use Rattle.table.specs.Body.{positive, any_positive}
 use Rattle.restart.specs.Walking.{unconcluded, conclusions_of}
-use Rattle.restart.specs.declared.conclusions.Conclusions.TheVariants.{Each, Missing}
+use Rattle.std.specs.Prelude.{Some, None}
 
--- so far no positive literal was met
-pub record Looking (words : List ℕ) (from count at left : ℕ) : Type 0 where
-  pub same : any_positive (take count (drop from words)) ≡ any_positive (take left (drop at words))
+-- a positive literal among words, by the library's own test
+pub any_positive_lem : (ws : List ℕ) → list_any positive ws ≡ any_positive ws
+unfolding any_positive
+any_positive_lem [] = refl
+any_positive_lem (w ∷ ws) = ap (λ (b : Bool). positive w || b) (any_positive_lem ws)
 
 from_here : (words : List ℕ) (at : ℕ) → at < length words → drop at words ≡ get_or words at 0 ∷ drop (at + 1) words
 from_here words at h = rw add-one (drop-cons words at 0 h)
-
-module _ {words : List ℕ} {from count : ℕ} where
-  pub look_begin : Looking words from count from count
-  look_begin = record { same = refl }
-
-  module _ {at left : ℕ} (k : Looking words from count at left) where
-    pub look_end : left ≡ 0 → false ≡ any_positive (take count (drop from words))
-    unfolding any_positive
-    look_end e = sym (rw e at k.same)
-
-    pub look_past : length words ≤ at → false ≡ any_positive (take count (drop from words))
-    unfolding any_positive
-    look_past h = sym (k.same ∙ rw (drop_of_length-le words h) (none-taken left))
-      where
-        none-taken : (n : ℕ) → any_positive (take n []) ≡ false
-        none-taken zero = refl
-        none-taken (suc n) = refl
-
-    module _ (some : left ≡ 0 → ⊥) (inside : at < length words) where
-      opened : any_positive (take left (drop at words)) ≡ positive (get_or words at 0) || any_positive (take (left - 1) (drop (at + 1) words))
-      unfolding any_positive
-      opened =
-          let n : left ≡ suc (left - 1) = omega arith in
-          ap₂ (λ (m : ℕ) (ws : List ℕ). any_positive (take m ws)) n (from_here words at inside)
-
-      module _ {q : Bool} (eq : q ≡ positive (get_or words at 0)) where
-        pub look_found : q ≡ true → true ≡ any_positive (take count (drop from words))
-        look_found t = sym (k.same ∙ opened ∙ rw (← eq, t))
-
-        pub look_on : q ≡ false → Looking words from count (at + 1) (left - 1)
-        look_on t = record { same = k.same ∙ opened ∙ rw (← eq, t) }
-
-pub ruleset look_laws = (look_begin, look_end, look_past, look_found, look_on)
 
 -- so far each clause has a positive literal
 pub record Walking (words : List ℕ) (question at passing : ℕ) : Type 0 where
@@ -64,7 +34,7 @@ module _ {words : List ℕ} {question : ℕ} where
   walk_begin = record { same = refl }
 
   module _ {at passing : ℕ} (k : Walking words question at passing) where
-    pub walk_end : length words ≤ at → Each ≡ conclusions_of (unconcluded question 0 0 words)
+    pub walk_end : length words ≤ at → None ≡ conclusions_of (unconcluded question 0 0 words)
     unfolding unconcluded
     walk_end h = let none_left : unconcluded question 0 0 words ≡ none = k.same ∙ rw (drop_of_length-le words h) in sym (ap conclusions_of none_left)
 
@@ -83,15 +53,13 @@ module _ {words : List ℕ} {question : ℕ} where
         unfolding unconcluded
         here = k.same ∙ ap₂ (λ (p : ℕ) (ws : List ℕ). unconcluded question at p ws) z (from_here words at inside)
 
-        pub walk_asked : at ≡ question → Each ≡ conclusions_of (unconcluded question 0 0 words)
+        pub walk_asked : at ≡ question → None ≡ conclusions_of (unconcluded question 0 0 words)
         walk_asked e = let none_left : unconcluded question 0 0 words ≡ none = here ∙ rw (eq-eqb at question e) in sym (ap conclusions_of none_left)
 
         module _ (n : at ≡ question → ⊥) {following : ℕ} (ef : following ≡ following_of (get_or words at 0)) {q : Bool} (eq : q ≡ any_positive (take following (drop (at + 1) words))) where
-          pub walk_missing : not q ≡ true → Missing at ≡ conclusions_of (unconcluded question 0 0 words)
+          pub walk_missing : not q ≡ true → Some at ≡ conclusions_of (unconcluded question 0 0 words)
           walk_missing t =
               let this : unconcluded question 0 0 words ≡ some at = here ∙ rw (ne_eqb at question n, ← ef, ← eq, not-true q t) in sym (ap conclusions_of this)
 
           pub walk_on : not q ≡ false → Walking words question (at + 1) following
           walk_on t = record { same = here ∙ rw (ne_eqb at question n, ← ef, ← eq, not-false q t) }
-
-pub ruleset walk_laws = (walk_begin, walk_end, walk_past, walk_asked, walk_missing, walk_on)

@@ -3,8 +3,7 @@ use Rattle.std.specs.Prelude.{cond, List, [], ◌∷◌, ℕ, zero, suc, ◌+◌
 use Rattle.std.proofs.Math.Option.{Option, none, some}
 use Rattle.words.specs.Fields.{following_of}
 use Rattle.table.specs.Body.{any_positive}
-use Rattle.restart.specs.declared.conclusions.Conclusions.{Conclusions}
-use Rattle.restart.specs.declared.conclusions.Conclusions.TheVariants.{Each, Missing}
+use Rattle.std.specs.Prelude as Prelude
 
 unfoldable pub unconcluded : ℕ → ℕ → ℕ → List ℕ → Option ℕ
 unconcluded question at passing [] = none
@@ -13,6 +12,7 @@ unconcluded question at zero (w ∷ ws) =
     cond (eqb at question) none
     (cond (any_positive (take (following_of w) ws)) (unconcluded question (at + 1) (following_of w) ws) (some at))
 
-abbrev pub conclusions_of : Option ℕ → Conclusions
-conclusions_of none = Each
-conclusions_of (some place) = Missing place
+-- as the code has it
+abbrev pub conclusions_of : Option ℕ → Prelude.Option ℕ
+conclusions_of none = Prelude.None
+conclusions_of (some place) = Prelude.Some place

@@ -9,22 +9,20 @@ ghost use Rattle.restart.specs.Walking.{conclusions_of};
 ghost use Rattle.restart.specs.Restart.{missing_for, search_on, check_on};
 
 use crate::conclusions;
-use crate::conclusions::Conclusions;
 use engine::Conditions;
-use hukolearu::door::{Entry, Inputs};
+use hukolearu::door::Inputs;
 use hukolearu::{Outcome, calls, door};
 use words::fields;
 
 const NO_CONCLUSION: u32 = 22;
 
-// The clause that is missing a conclusion, where all other checks are passed.
-fn missing(file: &[u32], inputs: Inputs) -> Conclusions
+// Where the clause begins that is missing a conclusion, where all other checks are passed.
+fn missing(file: &[u32], inputs: Inputs) -> Option<usize>
     ensures { result ≡ conclusions_of (missing_for file.now inputs) }
 {
-    let entry = door::enter(file, inputs);
-    match entry {
-        Entry::Refused(_, _) => Conclusions::Each,
-        Entry::Open(question) => conclusions::judge(file, fields::wide(question)),
+    match door::enter(file, inputs) {
+        Err(_) => None,
+        Ok(question) => conclusions::judge(file, fields::wide(question)),
     }
 }
 
@@ -47,13 +45,12 @@ pub fn search(
         proof: proof.len(),
         least: calls::LONGEST_RESTARTED,
     };
-    let conclusions = missing(file, inputs);
-    match conclusions {
-        Conclusions::Missing(place) => {
+    match missing(file, inputs) {
+        Some(place) => {
             door::leave(work);
             calls::refused(NO_CONCLUSION, place as u32, 0)
         }
-        Conclusions::Each => {
+        None => {
             let conditions = Conditions {
                 bound,
                 restarts: true,
@@ -80,13 +77,12 @@ pub fn check_proof(
         proof: 0,
         least: 0,
     };
-    let conclusions = missing(file, inputs);
-    match conclusions {
-        Conclusions::Missing(place) => {
+    match missing(file, inputs) {
+        Some(place) => {
             door::leave(work);
             calls::refused(NO_CONCLUSION, place as u32, 0)
         }
-        Conclusions::Each => {
+        None => {
             let conditions = Conditions {
                 bound,
                 restarts: true,
@@ -116,13 +112,12 @@ pub fn education_search(
         proof: proof.len(),
         least: calls::LONGEST_RESTARTED,
     };
-    let conclusions = missing(file, inputs);
-    match conclusions {
-        Conclusions::Missing(place) => {
+    match missing(file, inputs) {
+        Some(place) => {
             door::leave(work);
             calls::refused(NO_CONCLUSION, place as u32, 0)
         }
-        Conclusions::Each => {
+        None => {
             let conditions = Conditions {
                 bound,
                 restarts: true,
@@ -149,13 +144,12 @@ pub fn education_check(
         proof: 0,
         least: 0,
     };
-    let conclusions = missing(file, inputs);
-    match conclusions {
-        Conclusions::Missing(place) => {
+    match missing(file, inputs) {
+        Some(place) => {
             door::leave(work);
             calls::refused(NO_CONCLUSION, place as u32, 0)
         }
-        Conclusions::Each => {
+        None => {
             let conditions = Conditions {
                 bound,
                 restarts: true,

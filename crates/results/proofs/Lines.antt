@@ -11,7 +11,7 @@ use Rattle.text.specs.Digits.{decimal_text, words_text, bytes_text, long_decimal
 use Rattle.text.proofs.Putting.{then}
 use Rattle.hukolearu.specs.declared.Outcome.{Outcome}
 use Rattle.results.specs.Buffers.{all_are, both_untouched, text_kept, kept, work_kept, written}
-use Rattle.results.specs.Results.{barred_text, barred_bytes_text, verdict_text, first_numbers_text, last_numbers_text, lists_text, outcome_text, least_text, found_text, clause_text, counted_text, slimmed_text, slots_text, desk_text, read_text, written_text, listed_text, found_counts_text, other_counts_text, last_counts_text, season_text}
+use Rattle.results.specs.Results.{barred_text, barred_bytes_text, verdict_text, first_numbers_text, last_numbers_text, lists_text, outcome_text, least_text, found_text, clause_text, counted_text, slimmed_text, slots_text, desk_text, read_text, byte_line_text, written_text, listed_text, found_counts_text, other_counts_text, last_counts_text, season_text}
 use Rattle.season.specs.declared.Report.{Report}
 
 module _ {out a : List ℕ} {at n : ℕ} where
@@ -118,19 +118,21 @@ module _ {out a : List ℕ} {at n : ℕ} where
   unfolding read_text
   read_is status place words file p el ff fr ei q r = then (then p (rw (ff, el) at q)) (rw (ei, fr, el) at r)
 
-  pub written_is : (status place count : ℕ) (text : List ℕ) → Put out at (counted_text status place (bytes " bytes ") count) a n → {long : ℕ} → long ≡ count
-      → {front rest : List ℕ} → front ≡ take long text → rest ≡ drop long text → {intact : Bool} → intact ≡ all_are 0xA5 rest
-      → {b : List ℕ} {m : ℕ} → Put a n (barred_bytes_text front) b m → {c : List ℕ} {k : ℕ} → Put b m (verdict_text intact) c k
-      → Put out at (written_text status place count text) c k
-  unfolding written_text
-  written_is status place count text p el ff fr ei q r = then (then p (rw (ff, el) at q)) (rw (ei, fr, el) at r)
+  pub byte_line_is : (status place count : ℕ) (text : List ℕ) (intact : Bool) → Put out at (counted_text status place (bytes " bytes ") count) a n → {long : ℕ} → long ≡ count
+      → {front : List ℕ} → front ≡ take long text → {b : List ℕ} {m : ℕ} → Put a n (barred_bytes_text front) b m → {c : List ℕ} {k : ℕ} → Put b m (verdict_text intact) c k
+      → Put out at (byte_line_text status place count text intact) c k
+  unfolding byte_line_text
+  byte_line_is status place count text intact p el ff q r = then (then p (rw (ff, el) at q)) r
 
-  pub listed_is : (status place count : ℕ) (text work : List ℕ) → Put out at (counted_text status place (bytes " bytes ") count) a n → {long : ℕ} → long ≡ count
-      → {front rest : List ℕ} → front ≡ take long text → rest ≡ drop long text → {intact : Bool} → intact ≡ text_kept status rest work
-      → {b : List ℕ} {m : ℕ} → Put a n (barred_bytes_text front) b m → {c : List ℕ} {k : ℕ} → Put b m (verdict_text intact) c k
-      → Put out at (listed_text status place count text work) c k
-  unfolding listed_text
-  listed_is status place count text work p el ff fr ei q r = then (then p (rw (ff, el) at q)) (rw (ei, fr, el) at r)
+  pub written_is : (status place count : ℕ) (text : List ℕ) {long : ℕ} → long ≡ count → {rest : List ℕ} → rest ≡ drop long text → {intact : Bool} → intact ≡ all_are 0xA5 rest
+      → Put out at (byte_line_text status place count text intact) a n → Put out at (written_text status place count text) a n
+  unfolding byte_line_text written_text
+  written_is status place count text el fr ei p = rw (ei, fr, el) at p
+
+  pub listed_is : (status place count : ℕ) (text work : List ℕ) {long : ℕ} → long ≡ count → {rest : List ℕ} → rest ≡ drop long text → {intact : Bool} → intact ≡ text_kept status rest work
+      → Put out at (byte_line_text status place count text intact) a n → Put out at (listed_text status place count text work) a n
+  unfolding byte_line_text listed_text
+  listed_is status place count text work el fr ei p = rw (ei, fr, el) at p
 
   pub found_counts : (r : Report) → Put out at (counted_text r.status r.place (bytes " definite ") r.definite) a n
       → {b : List ℕ} {m : ℕ} → Put a n (bytes " indefinite " ++ decimal_text r.indefinite) b m → Put out at (found_counts_text r) b m
@@ -157,4 +159,4 @@ module _ {out a : List ℕ} {at n : ℕ} where
   unfolding season_text
   season_is r proof answer work p q u es ew fs fw ei v = then (then (then p q) u) (rw (ei, fs, fw, es, ew) at v)
 
-pub ruleset line_laws = (counted_is, written_is, listed_is, slimmed_is, read_is, slots_are, desk_is, barred_is, barred_bytes_are, verdict_good, verdict_bad, lists_are, first_are, last_are, outcome_is, least_is, found_is, clause_none, clause_some, found_counts, other_counts, last_counts, season_is)
+pub ruleset line_laws = (counted_is, byte_line_is, written_is, listed_is, slimmed_is, read_is, slots_are, desk_is, barred_is, barred_bytes_are, verdict_good, verdict_bad, lists_are, first_are, last_are, outcome_is, least_is, found_is, clause_none, clause_some, found_counts, other_counts, last_counts, season_is)

@@ -73,6 +73,11 @@ unfoldable pub read_text : ℕ → ℕ → ℕ → List ℕ → List ℕ
 read_text status place words file =
     counted_text status place (bytes " words ") words ++ barred_text (take words file) ++ verdict_text (all_are 0xA5A5A5A5 (drop words file))
 
+-- bytes at the front of a text's buffer after three numbers
+unfoldable pub byte_line_text : ℕ → ℕ → ℕ → List ℕ → Bool → List ℕ
+byte_line_text status place count text intact =
+    counted_text status place (bytes " bytes ") count ++ barred_bytes_text (take count text) ++ verdict_text intact
+
 -- a text written: three numbers, and the bytes at the front of the text's buffer
 unfoldable pub written_text : ℕ → ℕ → ℕ → List ℕ → List ℕ
 written_text status place count text =

@@ -10,10 +10,7 @@ use text::put;
 fn count(list: &[u32]) -> u32
     ensures { result ≡ min (length list.now) 4294967295 }
 {
-    if list.len() < 4294967295 {
-        return list.len() as u32;
-    }
-    4294967295
+    u32::try_from(list.len()).unwrap_or(u32::MAX)
 }
 
 fn found(out: &mut [u8], at: usize, start: u32, list: &[u32]) -> usize

@@ -1,7 +1,7 @@
 // The results of reading a text and of writing one.
 ghost use Rattle.std.specs.Prelude.{◌≡◌};
 ghost use Rattle.text.specs.Put.{Put};
-ghost use Rattle.results.specs.Results.{read_text, written_text, listed_text};
+ghost use Rattle.results.specs.Results.{read_text, byte_line_text, written_text, listed_text};
 
 use crate::{buffers, line};
 use text::part;
@@ -25,6 +25,23 @@ pub fn read_text(
     line::verdict(out, b, intact)
 }
 
+// The bytes of a text after its three numbers. The text's whole buffer is given.
+fn byte_line(
+    out: &mut [u8],
+    at: usize,
+    status: u32,
+    place: u32,
+    count: u32,
+    text: &[u8],
+    intact: bool,
+) -> usize
+    ensures { Put out.old at (byte_line_text status place count text.now intact) out.new result }
+{
+    let a = line::counted(out, at, status, place, b" bytes ", count);
+    let b = line::barred_bytes(out, a, part::front(text, wide(count)));
+    line::verdict(out, b, intact)
+}
+
 // A text written. The text's whole buffer is given.
 pub fn written_text(
     out: &mut [u8],
@@ -36,11 +53,8 @@ pub fn written_text(
 ) -> usize
     ensures { Put out.old at (written_text status place count text.now) out.new result }
 {
-    let long = wide(count);
-    let intact = buffers::untouched_bytes(part::rest_bytes(text, long));
-    let a = line::counted(out, at, status, place, b" bytes ", count);
-    let b = line::barred_bytes(out, a, part::front_bytes(text, long));
-    line::verdict(out, b, intact)
+    let intact = buffers::untouched_bytes(part::rest(text, wide(count)));
+    byte_line(out, at, status, place, count, text, intact)
 }
 
 // A listing. The whole buffers of the listing and of the work words are given.
@@ -55,9 +69,6 @@ pub fn listed_text(
 ) -> usize
     ensures { Put out.old at (listed_text status place count text.now work.now) out.new result }
 {
-    let long = wide(count);
-    let intact = buffers::text_kept(status, part::rest_bytes(text, long), work);
-    let a = line::counted(out, at, status, place, b" bytes ", count);
-    let b = line::barred_bytes(out, a, part::front_bytes(text, long));
-    line::verdict(out, b, intact)
+    let intact = buffers::text_kept(status, part::rest(text, wide(count)), work);
+    byte_line(out, at, status, place, count, text, intact)
 }

@@ -1,18 +1,12 @@
 // The verbs that are asked as a check is.
+use crate::asker::Asker;
 use crate::report;
 use hukolearu::{Outcome, calls};
+use requests::request::Field;
 use requests::{piece, request};
 use std::io;
 use text::part;
-
-// Who has a proof checked, and by which rules.
-#[derive(Clone, Copy)]
-enum Asker {
-    Collections,
-    Education,
-    Restart,
-    RestartEducation,
-}
+use words::room;
 
 fn checked(
     asker: Asker,
@@ -54,10 +48,10 @@ fn lend_check(
     answers: usize,
     works: usize,
 ) -> io::Result<()> {
-    let mut answer = lent::long_buffer();
-    let mut work = lent::long_buffer();
-    let a = lent::least(answers, 20000);
-    let w = lent::least(works, 20000);
+    let mut answer: [u32; lent::LONG_ROOM] = room::filled(lent::FILLED);
+    let mut work: [u32; lent::LONG_ROOM] = room::filled(lent::FILLED);
+    let a = answers.min(lent::LONG_ROOM);
+    let w = works.min(lent::LONG_ROOM);
     check(
         rt,
         asker,
@@ -70,9 +64,9 @@ fn lend_check(
 }
 
 fn answer_check(rt: &impl Print, asker: Asker, line: &[u8], values: &[usize]) -> io::Result<()> {
-    let mut space = lent::file_buffer();
+    let mut space: [u32; lent::FILE_ROOM] = room::filled(0);
     let n = piece::gather(line, request::place(values, 4), &mut space);
-    let mut proof = lent::proof_buffer();
+    let mut proof: [u32; lent::OFFERED_ROOM] = room::filled(0);
     let m = piece::gather(line, request::place(values, 3), &mut proof);
     lend_check(
         rt,
@@ -89,8 +83,13 @@ fn asks_check(line: &[u8], verb: &[u8], values: &mut [usize]) -> bool {
     request::asks(
         line,
         verb,
-        b"nnnww",
-        &[lent::ANY, lent::LONG, lent::LONG, lent::OFFERED, lent::FILE],
+        &[
+            Field::Number(lent::ANY),
+            Field::Number(lent::LONG),
+            Field::Number(lent::LONG),
+            Field::Words(lent::OFFERED),
+            Field::Words(lent::FILE),
+        ],
         values,
     )
 }

@@ -1,24 +1,44 @@
 // The verbs that are asked as a search is.
+use crate::asker::Asker;
 use crate::report;
-use hukolearu::calls;
+use hukolearu::{Outcome, calls};
+use requests::request::Field;
 use requests::{piece, request};
 use results::least;
 use std::io;
 use text::part;
 use words::fields::wide;
+use words::room;
 
 // The calls that are asked as a search is.
 #[derive(Clone, Copy)]
 enum Run {
-    Search,
+    Search(Asker),
     Smallest,
-    Education,
-    Restart,
-    RestartEducation,
+}
+
+fn searched(
+    asker: Asker,
+    file: &[u32],
+    bound: u32,
+    budget: u32,
+    proof: &mut [u32],
+    answer: &mut [u32],
+    work: &mut [u32],
+) -> Outcome {
+    match asker {
+        Asker::Collections => calls::search(file, bound, budget, proof, answer, work),
+        Asker::Education => education::search(file, bound, budget, proof, answer, work),
+        Asker::Restart => restart::calls::search(file, bound, budget, proof, answer, work),
+        Asker::RestartEducation => {
+            restart::calls::education_search(file, bound, budget, proof, answer, work)
+        }
+    }
 }
 
 fn search(
     rt: &impl Print,
+    asker: Asker,
     file: &[u32],
     bound: u32,
     budget: u32,
@@ -26,46 +46,7 @@ fn search(
     answer: &mut [u32],
     work: &mut [u32],
 ) -> io::Result<()> {
-    let o = calls::search(file, bound, budget, proof, answer, work);
-    report::report(rt, o, wide(o.proof), proof, answer, work)
-}
-
-fn search_seen(
-    rt: &impl Print,
-    file: &[u32],
-    bound: u32,
-    budget: u32,
-    proof: &mut [u32],
-    answer: &mut [u32],
-    work: &mut [u32],
-) -> io::Result<()> {
-    let o = education::search(file, bound, budget, proof, answer, work);
-    report::report(rt, o, wide(o.proof), proof, answer, work)
-}
-
-fn search_restarting(
-    rt: &impl Print,
-    file: &[u32],
-    bound: u32,
-    budget: u32,
-    proof: &mut [u32],
-    answer: &mut [u32],
-    work: &mut [u32],
-) -> io::Result<()> {
-    let o = restart::calls::search(file, bound, budget, proof, answer, work);
-    report::report(rt, o, wide(o.proof), proof, answer, work)
-}
-
-fn search_seen_restarting(
-    rt: &impl Print,
-    file: &[u32],
-    bound: u32,
-    budget: u32,
-    proof: &mut [u32],
-    answer: &mut [u32],
-    work: &mut [u32],
-) -> io::Result<()> {
-    let o = restart::calls::education_search(file, bound, budget, proof, answer, work);
+    let o = searched(asker, file, bound, budget, proof, answer, work);
     report::report(rt, o, wide(o.proof), proof, answer, work)
 }
 
@@ -80,7 +61,7 @@ fn find_smallest(
 ) -> io::Result<()> {
     let l = smallest::smallest(file, limit, budget, proof, answer, work);
     let o = l.outcome;
-    let mut out = lent::line_buffer();
+    let mut out: [u8; lent::LINE_ROOM] = room::filled(0);
     let n = least::least(&mut out, 0, l.bound, o, wide(o.proof), proof, answer, work);
     lent::write_line(rt, &out, n)
 }
@@ -96,13 +77,8 @@ fn find(
     work: &mut [u32],
 ) -> io::Result<()> {
     match run {
-        Run::Search => search(rt, file, bound, budget, proof, answer, work),
+        Run::Search(asker) => search(rt, asker, file, bound, budget, proof, answer, work),
         Run::Smallest => find_smallest(rt, file, bound, budget, proof, answer, work),
-        Run::Education => search_seen(rt, file, bound, budget, proof, answer, work),
-        Run::Restart => search_restarting(rt, file, bound, budget, proof, answer, work),
-        Run::RestartEducation => {
-            search_seen_restarting(rt, file, bound, budget, proof, answer, work)
-        }
     }
 }
 
@@ -117,10 +93,10 @@ fn lend_search(
     answers: usize,
     works: usize,
 ) -> io::Result<()> {
-    let mut answer = lent::long_buffer();
-    let mut work = lent::long_buffer();
-    let a = lent::least(answers, 20000);
-    let w = lent::least(works, 20000);
+    let mut answer: [u32; lent::LONG_ROOM] = room::filled(lent::FILLED);
+    let mut work: [u32; lent::LONG_ROOM] = room::filled(lent::FILLED);
+    let a = answers.min(lent::LONG_ROOM);
+    let w = works.min(lent::LONG_ROOM);
     find(
         rt,
         run,
@@ -143,8 +119,8 @@ fn lend_proof(
     answers: usize,
     works: usize,
 ) -> io::Result<()> {
-    let mut proof = lent::short_buffer();
-    let p = lent::least(proofs, 300);
+    let mut proof: [u32; lent::PROOF_ROOM] = room::filled(lent::FILLED);
+    let p = proofs.min(lent::PROOF_ROOM);
     lend_search(
         rt,
         run,
@@ -158,7 +134,7 @@ fn lend_proof(
 }
 
 fn answer_search(rt: &impl Print, run: Run, line: &[u8], values: &[usize]) -> io::Result<()> {
-    let mut space = lent::file_buffer();
+    let mut space: [u32; lent::FILE_ROOM] = room::filled(0);
     let n = piece::gather(line, request::place(values, 5), &mut space);
     lend_proof(
         rt,
@@ -176,14 +152,13 @@ fn asks_search(line: &[u8], verb: &[u8], values: &mut [usize]) -> bool {
     request::asks(
         line,
         verb,
-        b"nnnnnw",
         &[
-            lent::ANY,
-            lent::ANY,
-            lent::LONG,
-            lent::PROOF,
-            lent::LONG,
-            lent::FILE,
+            Field::Number(lent::ANY),
+            Field::Number(lent::ANY),
+            Field::Number(lent::LONG),
+            Field::Number(lent::PROOF),
+            Field::Number(lent::LONG),
+            Field::Words(lent::FILE),
         ],
         values,
     )
@@ -192,7 +167,7 @@ fn asks_search(line: &[u8], verb: &[u8], values: &mut [usize]) -> bool {
 // The verbs that are asked as a search is; whether the line was one of them.
 pub fn answer_searches(rt: &impl Print, line: &[u8], values: &mut [usize]) -> io::Result<bool> {
     if asks_search(line, b"search", values) {
-        answer_search(rt, Run::Search, line, values)?;
+        answer_search(rt, Run::Search(Asker::Collections), line, values)?;
         return Ok(true);
     }
     if asks_search(line, b"smallest", values) {
@@ -200,15 +175,15 @@ pub fn answer_searches(rt: &impl Print, line: &[u8], values: &mut [usize]) -> io
         return Ok(true);
     }
     if asks_search(line, b"edu-search", values) {
-        answer_search(rt, Run::Education, line, values)?;
+        answer_search(rt, Run::Search(Asker::Education), line, values)?;
         return Ok(true);
     }
     if asks_search(line, b"restart-search", values) {
-        answer_search(rt, Run::Restart, line, values)?;
+        answer_search(rt, Run::Search(Asker::Restart), line, values)?;
         return Ok(true);
     }
     if asks_search(line, b"restart-edu-search", values) {
-        answer_search(rt, Run::RestartEducation, line, values)?;
+        answer_search(rt, Run::Search(Asker::RestartEducation), line, values)?;
         return Ok(true);
     }
     Ok(false)

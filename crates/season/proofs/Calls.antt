@@ -19,8 +19,8 @@ use Rattle.hukolearu.specs.Door.{Fault, Check, refused_if, first_fault, checks, 
 use Rattle.hukolearu.specs.Calls.{refused_by, SearchAsked, search_inputs, search_call}
 use Rattle.hukolearu.specs.Says.{SearchAccepted}
 use Rattle.hukolearu.specs.declared.Outcome.{Outcome}
-use Rattle.hukolearu.specs.declared.door.Entry.{Entry as Entered}
-use Rattle.hukolearu.specs.declared.door.Entry.TheVariants.{Open, Refused}
+use Rattle.std.specs.Prelude.{Result, Ok, Err}
+use Rattle.hukolearu.specs.declared.door.Refusal.{Refusal}
 use Rattle.hukolearu.specs.declared.door.Inputs.{Inputs}
 use Rattle.hukolearu.proofs.DoorLaws.{passed, opened, admitted, fault_met, further_checks, refused_before}
 use Rattle.hukolearu.proofs.Says.{search_accepted}
@@ -197,15 +197,15 @@ gives_fault : (a : SeasonAsked) {status place : ℕ} → season_fault a ≡ some
 unfolding report_of proof_after answer_after behind
 gives_fault a e r proof answer = record { numbers = r ∙ rw e; steps = rw e; words = rw e }
 
-module _ (a : SeasonAsked) {entry : Entered} (says : entry ≡ entry_of a.table (season_inputs a)) where
-  pub gives_refusal : {status place : ℕ} → entry ≡ Refused status place → {report : Report} → report ≡ refused_report status place
+module _ (a : SeasonAsked) {entry : Result ℕ Refusal} (says : entry ≡ entry_of a.table (season_inputs a)) where
+  pub gives_refusal : {refusal : Refusal} → entry ≡ Err refusal → {report : Report} → report ≡ refused_report refusal.status refusal.place
       → (proof answer : List ℕ) → Gives a report proof proof answer answer
   gives_refusal e =
       gives_fault a
       (refused_before (own_checks a) (entries_check a.entries ∷ [])
       (sym (own_checks_lem a) ∙ fault_met a.table (season_inputs a) says e))
 
-  module _ {question : ℕ} (e : entry ≡ Open question) where
+  module _ {question : ℕ} (e : entry ≡ Ok question) where
     pub let_in : Admitted a.table (season_inputs a)
     let_in = opened a.table (season_inputs a) says e
 

@@ -13,15 +13,17 @@ use Rattle.table.proofs.Bools.{and_left, and_right}
 use Rattle.hukolearu.specs.Telling.{Told, Passed}
 use Rattle.hukolearu.specs.declared.Outcome.{Outcome}
 use Rattle.season.specs.Season.{Entry, file_with, result_of, Run, ran, not_run}
-use Rattle.season.specs.Asking.{admits, search_inside, question_run, entry_run, Ran}
+use Rattle.season.specs.Asking.{admits, search_inside, question_run, entry_run, number_of, Ran}
 use Rattle.season.specs.declared.ask.Ended.{Ended}
+use Rattle.season.specs.declared.tally.Kind.{Kind}
+use Rattle.season.specs.declared.tally.Kind.TheVariants.{Refused}
 use Rattle.season.proofs.Questions.{with_asks, with_short, with_question_lem}
 
 -- a run that says the same
 pub same_run : {r s : Run} → r ≡ s → {e : Ended} {proof proof' answer answer' : List ℕ} → Ran s e proof proof' answer answer' → Ran r e proof proof' answer answer'
 same_run e x = rw e x
 
-pub nothing_ran : (proof answer : List ℕ) → Ran not_run (record { result = 5; tries = 0 }) proof proof answer answer
+pub nothing_ran : (proof answer : List ℕ) → Ran not_run (record { result = Refused; tries = 0 }) proof proof answer answer
 nothing_ran proof answer = record { result = refl; tries = refl; steps = refl; words = refl }
 
 -- a question
@@ -61,8 +63,8 @@ module _ (table question : List ℕ) (bound : ℕ) {b : Bool} (e : b ≡ admits 
             low = low_bound;
           })
 
-pub run_told : {file file' : List ℕ} (room bound budget : ℕ) → file ≡ file' → {o : Outcome} {r : ℕ} {proof proof' answer answer' : List ℕ}
-    → Told (search_inside file room bound budget) o proof proof' answer answer' → r ≡ result_of o
+pub run_told : {file file' : List ℕ} (room bound budget : ℕ) → file ≡ file' → {o : Outcome} {r : Kind} {proof proof' answer answer' : List ℕ}
+    → Told (search_inside file room bound budget) o proof proof' answer answer' → number_of r ≡ result_of o
     → Ran (ran (search_inside file' room bound budget)) (record { result = r; tries = o.tries }) proof proof' answer answer'
 run_told {file} room bound budget f {o} t e =
     rw (← f) (record {

@@ -4,33 +4,46 @@ use mathlib.Core.List.{List, [], ◌∷◌, map}
 use mathlib.Core.Path.{◌≡◌, refl, ap, ◌∙◌}
 use Prim.Native.Nat.{ℕ, suc, ◌+◌, ◌-◌, ◌/◌, ◌%◌, ◌≤◌, ◌<◌}
 use native.Mathlib.Omega.{arith}
+use Rattle.std.proofs.Common.{add-zero}
 use borrow.Author.Tests.{eqb-true, leb-true}
 use lib.Dec.{eqb, leb}
 use lib.ListN.{length, drop, get_or, drop_of_length-le}
 use lib.Seq.{drop-cons}
 use Rattle.table.proofs.Bools.{and_left, and_right}
 use Rattle.season.specs.Season.{entries_of, Run, one_if, how_many, tries_of, counted, proof_left, answer_left, entries_fit, refused_report}
-use Rattle.season.specs.Asking.{entry_run, entry_at, Tabled, Lent, Ran, counting, tallied, Few, Reported}
+use Rattle.season.specs.Asking.{entry_run, entry_at, Tabled, Lent, Ran, number_of, counting, tallied, Few, Reported}
 use Rattle.season.specs.declared.Report.{Report}
 use Rattle.season.specs.declared.ask.Ended.{Ended}
+use Rattle.season.specs.declared.tally.Kind.{Kind}
+use Rattle.season.specs.declared.tally.Kind.TheVariants.{Definite, Indefinite, NoneFound, RanOut, TooLong, Refused}
 
--- the numbers one by one
-pub counting_is : (report : Report) (result tries : ℕ) {d i n o l f : ℕ} → d ≡ one_if (eqb result 0) → i ≡ one_if (eqb result 1) → n ≡ one_if (eqb result 2)
-    → o ≡ one_if (eqb result 3) → l ≡ one_if (eqb result 4) → f ≡ one_if (eqb result 5)
-    → ◌≡◌ {A = Report}
-    (record {
-      status = report.status;
-      place = report.place;
-      definite = report.definite + d;
-      indefinite = report.indefinite + i;
-      none = report.none + n;
-      ranout = report.ranout + o;
-      toolong = report.toolong + l;
-      refused = report.refused + f;
-      tries = report.tries + tries;
-    })
-    (counting report result tries)
-counting_is report result tries d i n o l f = rw (d, i, n, o, l, f)
+-- one more of a result
+module _ (report : Report) {kind : Kind} (tries : ℕ) where
+  pub count-definite : kind ≡ Definite
+      → ◌≡◌ {A = Report} (record report { definite = report.definite + 1; tries = report.tries + tries }) (counting report (number_of kind) tries)
+  count-definite e = rw e (simp add-zero)
+
+  pub count-indefinite : kind ≡ Indefinite
+      → ◌≡◌ {A = Report} (record report { indefinite = report.indefinite + 1; tries = report.tries + tries }) (counting report (number_of kind) tries)
+  count-indefinite e = rw e (simp add-zero)
+
+  pub count-none : kind ≡ NoneFound
+      → ◌≡◌ {A = Report} (record report { none = report.none + 1; tries = report.tries + tries }) (counting report (number_of kind) tries)
+  count-none e = rw e (simp add-zero)
+
+  pub count-ranout : kind ≡ RanOut
+      → ◌≡◌ {A = Report} (record report { ranout = report.ranout + 1; tries = report.tries + tries }) (counting report (number_of kind) tries)
+  count-ranout e = rw e (simp add-zero)
+
+  pub count-toolong : kind ≡ TooLong
+      → ◌≡◌ {A = Report} (record report { toolong = report.toolong + 1; tries = report.tries + tries }) (counting report (number_of kind) tries)
+  count-toolong e = rw e (simp add-zero)
+
+  pub count-refused : kind ≡ Refused
+      → ◌≡◌ {A = Report} (record report { refused = report.refused + 1; tries = report.tries + tries }) (counting report (number_of kind) tries)
+  count-refused e = rw e (simp add-zero)
+
+pub ruleset count_laws = (count-definite, count-indefinite, count-none, count-ranout, count-toolong, count-refused)
 
 -- what the runs add to a report
 abbrev added : Report → List Run → Report
@@ -216,7 +229,7 @@ module _ {table entries list proof₀ answer₀ : List ℕ} {begun : ℕ} {file 
     pub tally_next : {r : Ended} {report' : Report} {file' proof' answer' work' : List ℕ}
         → Ran (entry_run table list (length answer) (entry_at entries at)) r proof proof' answer answer'
         → Tabled table file' begun → length proof' ≡ length proof → length answer' ≡ length answer → length work' ≡ length work
-        → r.tries ≤ 4294967295 → report' ≡ counting report r.result r.tries
+        → r.tries ≤ 4294967295 → report' ≡ counting report (number_of r.result) r.tries
         → Tallying table entries list proof₀ answer₀ begun file' proof' answer' work' report' (at + 4)
     unfolding tallied proof_left answer_left
     tally_next {r} ran t p a w l e =
@@ -227,7 +240,7 @@ module _ {table entries list proof₀ answer₀ : List ℕ} {begun : ℕ} {file 
           lent = record { enough = omega (arith, x.lent.enough); room = w ∙ x.lent.room };
           whole = omega (arith, x.whole);
           most = x.most;
-          few = few_more at r.result r.tries report x.few l;
+          few = few_more at (number_of r.result) r.tries report x.few l;
           proof_room = p ∙ x.proof_room;
           answer_room = a ∙ x.answer_room;
           numbers = rw (told.result, told.tries) (rw more at x.numbers);

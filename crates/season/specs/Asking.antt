@@ -9,6 +9,8 @@ use Rattle.hukolearu.specs.Calls.{Given, search_given, at_front}
 use Rattle.season.specs.Season.{Entry, entries_of, own_part, file_with, question_at, points_inside, definite, indefinite, none_found, ran_out, too_long, refused, Run, ran, not_run, one_if, counted, proof_left, answer_left}
 use Rattle.season.specs.declared.Report.{Report}
 use Rattle.season.specs.declared.ask.Ended.{Ended}
+use Rattle.season.specs.declared.tally.Kind.{Kind}
+use Rattle.season.specs.declared.tally.Kind.TheVariants.{Definite, Indefinite, NoneFound, RanOut, TooLong, Refused}
 
 -- a question as the one clause of a file
 abbrev pub alone : List ℕ → List ℕ
@@ -53,9 +55,18 @@ pub record Put (table question : List ℕ) (begun words : ℕ) (file : List ℕ)
   pub within : words ≤ 16000
   pub front : take words file ≡ file_with table question
 
+-- the six results as the report's order numbers them
+abbrev pub number_of : Kind → ℕ
+number_of Definite = definite
+number_of Indefinite = indefinite
+number_of NoneFound = none_found
+number_of RanOut = ran_out
+number_of TooLong = too_long
+number_of Refused = refused
+
 -- a run's numbers, and its words at the front of the proof and answer buffers
 pub record Ran (run : Run) (r : Ended) (proof proof' answer answer' : List ℕ) : Type 0 where
-  pub result : r.result ≡ run.result
+  pub result : number_of r.result ≡ run.result
   pub tries : r.tries ≡ run.tries
   pub steps : proof' ≡ at_front run.proof proof
   pub words : answer' ≡ at_front run.answer answer

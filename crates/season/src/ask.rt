@@ -5,23 +5,27 @@ ghost use Rattle.table.specs.File.{judge, trailer};
 ghost use Rattle.season.specs.Asking.{alone, admits, question_run, entry_run, entry_at, Tabled, Lent, Put, Ran};
 
 use crate::tally;
+use crate::tally::Kind;
 use hukolearu::calls;
 use table::{build, file};
-use words::{fields, fingerprint};
+use words::{fields, fingerprint, room};
 
 const HIGHEST_BOUND: u32 = 32;
 
-const LONGEST_FILE: usize = 16000;
+pub(crate) const LONGEST_FILE: usize = 16000;
 
 // A clause word, and at most 255 words that follow.
 const LONGEST_CLAUSE: usize = 256;
 
 const TRAILER: usize = 4;
 
+// Room for the longest clause as a file.
+const CLAUSE_ROOM: usize = 260;
+
 // What a question came to, and its tries.
 #[derive(Clone, Copy)]
 pub(crate) struct Ended {
-    pub(crate) result: u32,
+    pub(crate) result: Kind,
     pub(crate) tries: u32,
 }
 
@@ -33,22 +37,15 @@ pub(crate) fn trailer(table: &[u32], k: usize) -> u32
 }
 
 // The fingerprint goes on over more words.
+#[tactic(auto, using(crate::proofs::Memory::mix_turn, crate::proofs::Memory::mix_done))]
 fn mixed_on(begun: u32, words: &[u32]) -> u32
     ensures { result ≡ mixed begun (bytes_of words.now) }
 {
     let mut h = begun;
-    let mut i = 0;
-    while i < words.len() {
-        h = fingerprint::mix_word(h, words[i]);
-        i += 1;
+    for word in words {
+        h = fingerprint::mix_word(h, *word);
     }
     h
-}
-
-fn clause_buffer() -> [u32; 260]
-    ensures { length result ≡ 260 }
-{
-    [0; 260]
 }
 
 // A question is judged as the one clause of a file: the table's own part is judged already.
@@ -56,7 +53,7 @@ fn stands_alone(question: &[u32]) -> bool
     requires { length question.now ≤ 256 }
     ensures { result ≡ eqb (judge (alone question.now)).status 0 }
 {
-    let mut file = clause_buffer();
+    let mut file: [u32; CLAUSE_ROOM] = room::filled(0);
     build::append(&mut file, 0, question);
     build::seal(&mut file, question.len(), 0, 1);
     let judged = file::judge(&file[..question.len() + TRAILER]);
@@ -116,7 +113,7 @@ fn ask(
 {
     if !admits(table, question, bound) {
         return Ended {
-            result: tally::REFUSED,
+            result: Kind::Refused,
             tries: 0,
         };
     }
@@ -150,7 +147,7 @@ pub(crate) fn ask_entry(
     let end = start + fields::wide(entries[at + 1]);
     if list.len() < end {
         return Ended {
-            result: tally::REFUSED,
+            result: Kind::Refused,
             tries: 0,
         };
     }

@@ -6,10 +6,10 @@ ghost use Rattle.table.specs.File.{judge};
 ghost use Rattle.season.specs.Season.{refused_report, entries_fit, season_with, report_of, proof_after, answer_after, work_left};
 ghost use Rattle.season.specs.Asking.{Tabled, Lent, Reported};
 
-use hukolearu::door::{Entry, Inputs};
+use hukolearu::door::Inputs;
 use hukolearu::{calls, door};
 use table::build;
-use words::{fields, fingerprint};
+use words::{fields, fingerprint, room};
 
 mod ask;
 mod tally;
@@ -56,13 +56,11 @@ fn refused(status: u32, place: u32) -> Report
 }
 
 // At most 4,096 entries, and no words left over.
+#[tactic(auto, unfolding(crate::specs::Season::entries_fit))]
 fn entries_fit(words: usize) -> bool
     ensures { result ≡ entries_fit words }
 {
-    if words % ENTRY != 0 {
-        return false;
-    }
-    words / ENTRY <= MOST_ENTRIES
+    words % ENTRY == 0 && words / ENTRY <= MOST_ENTRIES
 }
 
 // Entry after entry.
@@ -89,13 +87,6 @@ fn ask_all(
     report
 }
 
-// Room for the longest file.
-fn file_buffer() -> [u32; 16000]
-    ensures { length result ≡ 16000 }
-{
-    [0; 16000]
-}
-
 // The table's own part is copied and fingerprinted once.
 fn put_all(
     table: &[u32],
@@ -108,7 +99,7 @@ fn put_all(
     requires { ((judge table.now).status ≡ 0) × Lent proof.old work.old × (entries_fit (length entries.now) ≡ true) }
     ensures { Reported table.now entries.now list.now result proof.old proof.new answer.old answer.new }
 {
-    let mut file = file_buffer();
+    let mut file: [u32; ask::LONGEST_FILE] = room::filled(0);
     let own = &table[..fields::wide(ask::trailer(table, 0))];
     build::append(&mut file, 0, own);
     let begun = fingerprint::of_words(own);
@@ -134,13 +125,12 @@ pub fn season(
         proof: proof.len(),
         least: calls::LONGEST_PROOF,
     };
-    let entry = door::enter(table, inputs);
-    match entry {
-        Entry::Refused(status, place) => {
+    match door::enter(table, inputs) {
+        Err(refusal) => {
             door::leave(work);
-            refused(status, place)
+            refused(refusal.status, refusal.place)
         }
-        Entry::Open(_) => {
+        Ok(_) => {
             if !entries_fit(entries.len()) {
                 door::leave(work);
                 return refused(ENTRIES_WRONG, 0);

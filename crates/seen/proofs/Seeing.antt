@@ -23,7 +23,7 @@ use Rattle.slim.specs.Rounds.{flags_up_to}
 use Rattle.slim.specs.Walking.{Ready, Passed, Sized}
 use Rattle.slim.specs.declared.writing.Size.{Size}
 use Rattle.slim.proofs.Flags.{flagged, flagged_none, flagged_next, flagged_length, flagged_all}
-use Rattle.slim.proofs.Telling.{file_long}
+use Rattle.slim.proofs.Telling.{file_long, accepted_laws}
 use Rattle.slim.proofs.Walks.{each_at, file_short, clauses_within, walk_begin, walk_below, walk_done, walk_in, walk_words, walk_next}
 use Rattle.seen.specs.Copying.{seen_flag, seen_flags, seen_file, seen_part}
 
@@ -129,6 +129,8 @@ module _ (file : List ℕ) {present : List Bool} (p : present ≡ seen_flags (ta
   pub seen_written : (before : List ℕ) {after : List ℕ} → after ≡ at_front (file_words (remaining (table_in file) present)) before → after ≡ at_front (seen_file file) before
   seen_written before e = e ∙ ap (λ (ws : List ℕ). at_front ws before) same-file
 
+pub ruleset seen_laws = (seen_long, seen_room)
+
 -- nothing is copied of a file that is refused
 module _ (file : List ℕ) {j : Judgement} (e : j ≡ judge file) where
   module _ (n : j.status ≡ 0 → ⊥) where
@@ -152,3 +154,5 @@ module _ (file : List ℕ) {j : Judgement} (e : j ≡ judge file) where
 
     pub accepted_copy : (before : List ℕ) {copy : List ℕ} → copy ≡ at_front (seen_file file) before → copy ≡ at_front (seen_part file) before
     accepted_copy before c = c ∙ ap (λ (ws : List ℕ). at_front ws before) accepted-part
+
+pub ruleset copy_laws = (accepted_laws, refused_words, refused_copy, accepted_words, accepted_copy)

@@ -15,16 +15,15 @@ fn flag_seen(file: &[u32], question: usize, present: &mut [bool])
     requires { Ready file.now question × (length present.old ≡ length (table_in file.now).clauses) }
     ensures { present.new ≡ seen_flags (table_in file.now) }
 {
-    let mut number = 0;
     let mut at = 0;
-    while at < question {
-        present[number] = !fields::restricted(file[at]);
+    for seen in present.iter_mut() {
+        *seen = !fields::restricted(file[at]);
         at = dropping::after(file, at);
-        number += 1;
     }
 }
 
 // The file of an accepted one's clauses that are seen, at the front of a buffer; how many words it has.
+#[tactic(auto, using(crate::proofs::Seeing::seen_laws))]
 fn write_seen(file: &[u32], question: usize, present: &mut [bool], copy: &mut [u32]) -> usize
     requires { Ready file.now question × (length present.old ≡ length (table_in file.now).clauses) × (length copy.old ≡ 16000) }
     ensures { (result ≡ length (seen_file file.now)) × (copy.new ≡ at_front (seen_file file.now) copy.old) }
@@ -37,6 +36,7 @@ fn write_seen(file: &[u32], question: usize, present: &mut [bool], copy: &mut [u
 }
 
 // The same of any file; of one that is refused there is no word.
+#[tactic(auto, using(crate::proofs::Seeing::copy_laws))]
 pub fn copy_seen(file: &[u32], copy: &mut [u32]) -> usize
     requires { length copy.old ≡ 16000 }
     ensures { (result ≡ length (seen_part file.now)) × (copy.new ≡ at_front (seen_part file.now) copy.old) }

@@ -36,19 +36,19 @@ one_round t zero present h = absurd (omega arith)
 one_round t (suc left) present h = let z : suc left - 1 ≡ left = omega arith in rw z
 
 module _ (t : Table) where
-  pub settle_begin : (present : List Bool) → present ≡ unrepeated t → Settling t (length present) present
+  pub settle_begin : (present : List Bool) {left : ℕ} → left ≡ length present → present ≡ unrepeated t → Settling t left present
   unfolding kept_flags
-  settle_begin present e =
+  settle_begin present z e =
       let l : length present ≡ length t.clauses = ap length e ∙ unrepeated_length t in
-      record { long = l; whole = rw (l, e) }
+      record { long = l; whole = rw (z, l, e) }
 
   module _ (left : ℕ) (present after : List Bool) (dropped : Bool) (g : Settling t left present) (s : Swept t present after dropped) where
     pub settle_length : length after ≡ length t.clauses
     settle_length = ap length s.made ∙ round_length t present
 
-    pub settle_next : 0 < left → Settling t (left - 1) after
-    settle_next h =
-        record { long = settle_length; whole = rw s.made (sym (one_round t left present h) ∙ g.whole) }
+    pub settle_next : 0 < left → {fewer : ℕ} → fewer ≡ left - 1 → Settling t fewer after
+    settle_next h z =
+        record { long = settle_length; whole = rw (z, s.made) (sym (one_round t left present h) ∙ g.whole) }
 
     pub settle_still : not dropped ≡ true → after ≡ kept_flags t
     settle_still n =

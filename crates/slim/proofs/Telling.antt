@@ -159,40 +159,39 @@ module _ (t : Table) (present : List Bool) (size : Size) (p : present ≡ kept_f
             old = rw numbers-told b;
           })
 
-pub number_needs : (file : List ℕ) (question : ℕ) → Ready file question → (present : List Bool) (size : Size) → present ≡ kept_flags (table_in file) → Sized (remaining (table_in file) present) size
-    → length present ≡ length (table_in file).clauses → (numbers : List ℕ) → size.clauses ≤ length numbers → (length present ≤ 512) × (length (kept_numbers present) + 1 ≤ length numbers)
-number_needs file question r present size p s l numbers h = (flags_few file question present r l, numbers_room (table_in file) present size p s l numbers h)
+-- a file that is accepted
+module _ (file : List ℕ) {j : Judgement} (e : j ≡ judge file) (z : j.status ≡ 0) (small : (i : ℕ) → Fits w32 (get_or file i 0)) where
+  pub file_ready : Ready file j.question
+  file_ready = record { accepted = rw e at z; small = words_each file (λ i. (small i).fits); asks = rw e }
 
-pub ruleset told_laws = (clauses_fit, tt)
+  rules_counted : j.clauses ≡ length (table_in file).clauses + 1
+  unfolding all_clauses
+  rules_counted =
+      rw e (sym (accepted_count file file_ready.accepted) ∙ length-append (table_in file).clauses ((table_in file).question ∷ []))
 
--- the file's own refusals, and a file that is accepted
+  pub question_counted : 1 ≤ j.clauses
+  question_counted = omega (arith, rules_counted)
+
+  pub rules_few : j.clauses ≤ 512
+  rules_few = omega (arith, rules_counted, clauses_few file j.question file_ready)
+
+  pub flags_count : j.clauses - 1 ≡ length (take (j.clauses - 1) (replicate 512 false))
+  flags_count = sym (length-take-le (j.clauses - 1) (replicate 512 false) (omega (arith, rules_few, length-replicate 512 false)))
+
+  pub flags_long : length (take (j.clauses - 1) (replicate 512 false)) ≡ length (table_in file).clauses
+  flags_long = sym flags_count ∙ omega (arith, rules_counted)
+
+pub ruleset accepted_laws = (file_ready, question_counted, rules_few, flags_count, flags_long)
+
+-- the file's own refusals, and what is told of an accepted file
 module _ (file slimmer numbers : List ℕ) {j : Judgement} (e : j ≡ judge file) where
   pub file_refused : (j.status ≡ 0 → ⊥) → slim_call file (length slimmer) (length numbers) ≡ refused j.status j.place
   unfolding slim_call
   file_refused n = rw (← e, ne_eqb j.status 0 n)
 
-  module _ (z : j.status ≡ 0) where
-    pub file_granted : slim_call file (length slimmer) (length numbers) ≡ if_it_fits (table_in file) (length slimmer) (length numbers)
-    unfolding slim_call
-    file_granted = rw (← e, eq-eqb j.status 0 z)
-
-    module _ (small : (i : ℕ) → Fits w32 (get_or file i 0)) where
-      pub file_ready : Ready file j.question
-      file_ready = record { accepted = rw e at z; small = words_each file (λ i. (small i).fits); asks = rw e }
-
-      pub rules_counted : j.clauses ≡ length (table_in file).clauses + 1
-      unfolding all_clauses
-      rules_counted =
-          rw e (sym (accepted_count file file_ready.accepted) ∙ length-append (table_in file).clauses ((table_in file).question ∷ []))
-
-      pub rules_few : j.clauses ≤ 512
-      rules_few = omega (arith, rules_counted, clauses_few file j.question file_ready)
-
-      pub flags_count : j.clauses - 1 ≡ length (take (j.clauses - 1) (replicate 512 false))
-      flags_count = sym (length-take-le (j.clauses - 1) (replicate 512 false) (omega (arith, rules_few, length-replicate 512 false)))
-
-      pub flags_long : length (take (j.clauses - 1) (replicate 512 false)) ≡ length (table_in file).clauses
-      flags_long = sym flags_count ∙ omega (arith, rules_counted)
+  file_granted : j.status ≡ 0 → slim_call file (length slimmer) (length numbers) ≡ if_it_fits (table_in file) (length slimmer) (length numbers)
+  unfolding slim_call
+  file_granted z = rw (← e, eq-eqb j.status 0 z)
 
   module _ (n : j.status ≡ 0 → ⊥) where
     pub refused_outcome : {r : Slimmed} → r ≡ (refused j.status j.place).outcome → r ≡ (slim_call file (length slimmer) (length numbers)).outcome

@@ -157,6 +157,9 @@ module _ (file : List ℕ) (question : ℕ) (r : Ready file question) where
     pub walk_before : number < length (table_in file).clauses → at < question
     walk_before h = omega (arith, further h, clause_some (clause_no (table_in file) number))
 
+    pub walk_ended : length (table_in file).clauses ≤ number → question ≤ at
+    walk_ended h = omega (arith, all_passed h)
+
     pub walk_done : question ≤ at → number ≡ length (table_in file).clauses
     walk_done h = outside (dec_lt number (length (table_in file).clauses))
       where

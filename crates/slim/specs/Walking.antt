@@ -1,11 +1,13 @@
 -- Machinery: what the inner functions promise one another. The public contract rests on none of this.
-use Rattle.std.specs.Prelude.{eqb, length, take, get_or, Bool, false, not, ◌&&◌, ◌||◌, List, ◌≡◌, ℕ, ◌+◌, ◌%◌, ◌≤◌, ◌<◌}
+use Rattle.std.specs.Prelude.{eqb, length, take, get_or, Bool, false, not, ◌&&◌, ◌||◌, List, [], ◌∷◌, ◌≡◌, ℕ, ◌+◌, ◌%◌, ◌≤◌, ◌<◌}
+use Rattle.std.specs.Coded.{×_prop, Unit-prop, le_prop}
+use Rattle.std.proofs.Props.{props}
 use Rattle.words.specs.Fields.{kind_of}
 use Rattle.table.specs.Syntax.{Table, all_clauses}
 use Rattle.table.specs.Build.{at_front}
 use Rattle.table.specs.Encode.{clauses_words, body_words}
 use Rattle.table.specs.File.{judge}
-use Rattle.table.specs.Limits.{Words}
+use Rattle.table.specs.Limits.{Each, Words}
 use Rattle.slim.specs.Dropping.{some_of, chosen}
 use Rattle.slim.specs.Rounds.{round}
 use Rattle.slim.specs.Call.{numbers_up_to, Given}
@@ -17,6 +19,15 @@ pub record Ready (file : List ℕ) (question : ℕ) : Type 0 where
   pub accepted : (judge file).status ≡ 0
   pub small : Words file
   pub asks : question ≡ (judge file).question
+
+-- there is one proof of it at most
+words_once : (file : List ℕ) → IsProp (Words file)
+unfolding Each
+words_once [] = Unit-prop
+words_once (w ∷ file) = ×_prop le_prop (words_once file)
+
+pub ready_once : (file : List ℕ) (question : ℕ) → IsProp (Ready file question)
+ready_once file question = hlevel (props, words_once)
 
 -- so many clauses before the question have been passed, and the next clause begins here
 pub record Passed (t : Table) (number at : ℕ) : Type 0 where

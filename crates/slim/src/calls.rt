@@ -3,8 +3,9 @@ ghost use Rattle.std.specs.Prelude.{◌≡◌, length};
 ghost use Rattle.table.specs.Build.{at_front};
 ghost use Rattle.table.specs.File.{table_in};
 ghost use Rattle.slim.specs.Call.{refused, if_it_fits, slim_call};
-ghost use Rattle.slim.specs.Walking.{Ready, Told};
+ghost use Rattle.slim.specs.Walking.{Told};
 
+use crate::asked::Asked;
 use crate::{Slimmed, dropping, writing};
 
 fn refused(status: u32, place: u32) -> Slimmed
@@ -19,18 +20,12 @@ fn refused(status: u32, place: u32) -> Slimmed
 }
 
 // Which clauses are kept is found, counted and, if it fits, written.
-fn slimmed(
-    file: &[u32],
-    question: usize,
-    present: &mut [bool],
-    slimmer: &mut [u32],
-    numbers: &mut [u32],
-) -> Slimmed
-    requires { Ready file.now question × (length present.old ≡ length (table_in file.now).clauses) }
-    ensures { Told (if_it_fits (table_in file.now) (length slimmer.old) (length numbers.old)) result slimmer.old slimmer.new numbers.old numbers.new }
+fn slimmed(asked: Asked, present: &mut [bool], slimmer: &mut [u32], numbers: &mut [u32]) -> Slimmed
+    requires { length present.old ≡ length (table_in asked.file.now).clauses }
+    ensures { Told (if_it_fits (table_in asked.entry.file.now) (length slimmer.old) (length numbers.old)) result slimmer.old slimmer.new numbers.old numbers.new }
 {
-    dropping::settle(file, question, present);
-    let size = writing::measure(file, question, present);
+    dropping::settle(asked, present);
+    let size = writing::measure(asked.file, asked.question, present);
     let words = size.body + 4;
     let clauses = size.clauses;
     if slimmer.len() < words {
@@ -39,7 +34,7 @@ fn slimmed(
     if numbers.len() < clauses {
         return refused(16, 0);
     }
-    writing::write(file, question, present, slimmer, size);
+    writing::write(asked.file, asked.question, present, slimmer, size);
     writing::number(present, numbers);
     Slimmed {
         status: 0,
@@ -49,6 +44,7 @@ fn slimmed(
     }
 }
 
+#[tactic(auto, using(crate::proofs::Telling::accepted_laws, crate::proofs::Telling::call_laws))]
 pub fn slim(file: &[u32], slimmer: &mut [u32], numbers: &mut [u32]) -> Slimmed
     ensures value { result ≡ (slim_call file.now (length slimmer.old) (length numbers.old)).outcome }
     ensures slimmer_after { slimmer.new ≡ at_front (slim_call file.now (length slimmer.old) (length numbers.old)).file slimmer.old }
@@ -60,5 +56,9 @@ pub fn slim(file: &[u32], slimmer: &mut [u32], numbers: &mut [u32]) -> Slimmed
     }
     let mut flags = [false; 512];
     let rules = judged.clauses - 1;
-    slimmed(file, judged.question, &mut flags[..rules], slimmer, numbers)
+    let asked = Asked {
+        file,
+        question: judged.question,
+    };
+    slimmed(asked, &mut flags[..rules], slimmer, numbers)
 }

@@ -5,8 +5,9 @@ ghost use Rattle.table.specs.Encode.{body_words};
 ghost use Rattle.table.specs.File.{table_in};
 ghost use Rattle.slim.specs.Dropping.{some_of, same_words, repeats, remaining};
 ghost use Rattle.slim.specs.Rounds.{unrepeated, kept_flags};
-ghost use Rattle.slim.specs.Walking.{Ready, Passed, kind_index, opposite_index, Marked, Marks, lonely, Swept};
+ghost use Rattle.slim.specs.Walking.{Passed, kind_index, opposite_index, Marked, Marks, lonely, Swept};
 
+use crate::asked::Asked;
 use words::fields;
 
 // Where the clause after this one begins.
@@ -21,49 +22,36 @@ pub fn after(file: &[u32], at: usize) -> usize
 fn same_words(left: &[u32], right: &[u32]) -> bool
     ensures { result ≡ same_words left.now right.now }
 {
-    if left.len() != right.len() {
-        return false;
-    }
-    let mut i = 0;
-    while i < left.len() {
-        if left[i] != right[i] {
-            return false;
-        }
-        i += 1;
-    }
-    true
+    left == right
 }
 
 // Whether the clause of this number, which begins here, has the words of an earlier one.
-fn repeats(file: &[u32], question: usize, number: usize, at: usize) -> bool
-    requires { Ready file.now question × Passed (table_in file.now) number at × (at < question) }
-    ensures { result ≡ repeats (table_in file.now) number }
+#[tactic(auto, using(crate::proofs::Repeating::differs_laws))]
+fn repeats(asked: Asked, number: usize, at: usize) -> bool
+    requires { Passed (table_in asked.file.now) number at × (at < asked.question) }
+    ensures { result ≡ repeats (table_in asked.entry.file.now) number }
 {
-    let end = after(file, at);
-    let mut i = 0;
+    let end = asked.after(at);
     let mut next = 0;
-    while i < number {
+    for _ in 0..number {
         let start = next;
-        next = after(file, start);
-        if same_words(&file[start..next], &file[at..end]) {
+        next = asked.after(start);
+        if same_words(&asked.file[start..next], &asked.file[at..end]) {
             return true;
         }
-        i += 1;
     }
     false
 }
 
 // The clauses that repeat no earlier one.
-fn first(file: &[u32], question: usize, present: &mut [bool])
-    requires { Ready file.now question × (length present.old ≡ length (table_in file.now).clauses) }
-    ensures { present.new ≡ unrepeated (table_in file.now) }
+fn first(asked: Asked, present: &mut [bool])
+    requires { length present.old ≡ length (table_in asked.file.now).clauses }
+    ensures { present.new ≡ unrepeated (table_in asked.entry.file.now) }
 {
-    let mut number = 0;
     let mut at = 0;
-    while at < question {
-        present[number] = !repeats(file, question, number, at);
-        at = after(file, at);
-        number += 1;
+    for (number, kept) in present.iter_mut().enumerate() {
+        *kept = !repeats(asked, number, at);
+        at = asked.after(at);
     }
 }
 
@@ -80,56 +68,49 @@ fn opposite_index(w: u32) -> usize
     (kind_index(w) + 32768) % 65536
 }
 
+#[tactic(auto, using(crate::proofs::Marking::look_laws))]
 fn mark_words(words: &[u32], marks: &mut [bool])
     requires { length marks.old ≡ 65536 }
     ensures { Marked words.now marks.old marks.new }
 {
-    let mut i = 0;
-    while i < words.len() {
-        let w = words[i];
-        i += 1;
-        if fields::kind(w) != 2 {
+    for w in words {
+        if fields::kind(*w) != 2 {
             continue;
         }
-        marks[kind_index(w)] = true;
+        marks[kind_index(*w)] = true;
     }
 }
 
 // Marks the kinds of literals that the clauses still present have, the question among them.
-fn mark(file: &[u32], question: usize, present: &[bool], marks: &mut [bool])
-    requires ready { Ready file.now question × (length present.now ≡ length (table_in file.now).clauses) }
+fn mark(asked: Asked, present: &[bool], marks: &mut [bool])
+    requires present_len { length present.now ≡ length (table_in asked.file.now).clauses }
     requires marks_value { marks.old ≡ replicate 65536 false }
-    ensures { Marks (body_words (remaining (table_in file.now) present.now)) marks.new }
+    ensures { Marks (body_words (remaining (table_in asked.entry.file.now) present.now)) marks.new }
 {
-    let mut number = 0;
     let mut next = 0;
-    while next < question {
+    for still in present {
         let at = next;
-        let clause = number;
-        next = after(file, at);
-        number += 1;
-        if !present[clause] {
+        next = asked.after(at);
+        if !*still {
             continue;
         }
-        mark_words(&file[at..next], marks);
+        mark_words(&asked.file[at..next], marks);
     }
-    let end = after(file, question);
-    mark_words(&file[question..end], marks);
+    let end = asked.after(asked.question);
+    mark_words(&asked.file[asked.question..end], marks);
 }
 
 // Whether some literal of a clause has no partner.
+#[tactic(auto, using(crate::proofs::Marking::seek_laws))]
 fn lonely(words: &[u32], marks: &[bool]) -> bool
     requires { length marks.now ≡ 65536 }
     ensures { result ≡ some_of (lonely marks.now) words.now }
 {
-    let mut i = 0;
-    while i < words.len() {
-        let w = words[i];
-        i += 1;
-        if fields::kind(w) != 2 {
+    for w in words {
+        if fields::kind(*w) != 2 {
             continue;
         }
-        if !marks[opposite_index(w)] {
+        if !marks[opposite_index(*w)] {
             return true;
         }
     }
@@ -137,51 +118,47 @@ fn lonely(words: &[u32], marks: &[bool]) -> bool
 }
 
 // Drops every dead clause; whether there was one.
-fn sweep(file: &[u32], question: usize, present: &mut [bool], marks: &[bool]) -> bool
-    requires ready { Ready file.now question × (length present.old ≡ length (table_in file.now).clauses) }
-    requires marks { Marks (body_words (remaining (table_in file.now) present.old)) marks.now }
-    ensures { Swept (table_in file.now) present.old present.new result }
+fn sweep(asked: Asked, present: &mut [bool], marks: &[bool]) -> bool
+    requires present_len { length present.old ≡ length (table_in asked.file.now).clauses }
+    requires marks { Marks (body_words (remaining (table_in asked.file.now) present.old)) marks.now }
+    ensures { Swept (table_in asked.entry.file.now) present.old present.new result }
 {
-    let mut number = 0;
     let mut next = 0;
     let mut dropped = false;
-    while next < question {
+    for kept in present.iter_mut() {
         let at = next;
-        let this = number;
-        next = after(file, at);
-        number += 1;
-        if !present[this] {
+        next = asked.after(at);
+        if !*kept {
             continue;
         }
-        if !lonely(&file[at..next], marks) {
+        if !lonely(&asked.file[at..next], marks) {
             continue;
         }
-        present[this] = false;
+        *kept = false;
         dropped = true;
     }
     dropped
 }
 
-fn round(file: &[u32], question: usize, present: &mut [bool]) -> bool
-    requires { Ready file.now question × (length present.old ≡ length (table_in file.now).clauses) }
-    ensures { Swept (table_in file.now) present.old present.new result }
+fn round(asked: Asked, present: &mut [bool]) -> bool
+    requires { length present.old ≡ length (table_in asked.file.now).clauses }
+    ensures { Swept (table_in asked.entry.file.now) present.old present.new result }
 {
     let mut marks = [false; 65536];
-    mark(file, question, present, &mut marks);
-    sweep(file, question, present, &marks)
+    mark(asked, present, &mut marks);
+    sweep(asked, present, &marks)
 }
 
 // Repeats are dropped, then dead clauses, until a round drops none.
-pub(crate) fn settle(file: &[u32], question: usize, present: &mut [bool])
-    requires { Ready file.now question × (length present.old ≡ length (table_in file.now).clauses) }
-    ensures { present.new ≡ kept_flags (table_in file.now) }
+#[tactic(auto, using(crate::proofs::Settling::settle_laws))]
+pub(crate) fn settle(asked: Asked, present: &mut [bool])
+    requires { length present.old ≡ length (table_in asked.file.now).clauses }
+    ensures { present.new ≡ kept_flags (table_in asked.entry.file.now) }
 {
-    first(file, question, present);
-    let mut left = present.len();
-    while left > 0 {
-        if !round(file, question, present) {
+    first(asked, present);
+    for _ in 0..present.len() {
+        if !round(asked, present) {
             return;
         }
-        left -= 1;
     }
 }

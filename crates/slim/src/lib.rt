@@ -1,6 +1,7 @@
 // Order 12: a slimmer file without repeats and dead clauses.
 #![tactic(auto)]
 
+mod asked;
 pub mod calls;
 pub mod dropping;
 pub mod writing;

@@ -17,20 +17,18 @@ pub struct Size {
     pub clauses: usize,
 }
 
+#[tactic(auto, using(crate::proofs::Walks::walk_before, crate::proofs::Walks::walk_ended, crate::proofs::Copying::count_laws))]
 pub fn measure(file: &[u32], question: usize, present: &[bool]) -> Size
     requires { Ready file.now question × (length present.now ≡ length (table_in file.now).clauses) }
     ensures { Sized (remaining (table_in file.now) present.now) result }
 {
-    let mut number = 0;
     let mut next = 0;
     let mut words = 0;
     let mut clauses = 0;
-    while next < question {
+    for kept in present {
         let at = next;
-        let this = number;
         next = dropping::after(file, at);
-        number += 1;
-        if !present[this] {
+        if !*kept {
             continue;
         }
         words += next - at;
@@ -50,15 +48,12 @@ fn copy_clauses(file: &[u32], question: usize, present: &[bool], slimmer: &mut [
     requires present_in_bounds { length (kept_words (table_in file.now) present.now) ≤ length slimmer.old }
     ensures { slimmer.new ≡ at_front (kept_words (table_in file.now) present.now) slimmer.old }
 {
-    let mut number = 0;
     let mut next = 0;
     let mut words = 0;
-    while next < question {
+    for kept in present {
         let at = next;
-        let this = number;
         next = dropping::after(file, at);
-        number += 1;
-        if !present[this] {
+        if !*kept {
             continue;
         }
         build::append(slimmer, words, &file[at..next]);
@@ -67,26 +62,25 @@ fn copy_clauses(file: &[u32], question: usize, present: &[bool], slimmer: &mut [
 }
 
 // Writes the numbers of the flags that are set, and the number after the last flag, which is the question's.
+#[tactic(auto, using(crate::proofs::Copying::number_laws))]
 pub(crate) fn number(present: &[bool], numbers: &mut [u32])
     requires present_len_bound { length present.now ≤ 512 }
     requires present_in_bounds { length (kept_numbers present.now) + 1 ≤ length numbers.old }
     ensures { numbers.new ≡ at_front (kept_numbers present.now ++ (length present.now ∷ [])) numbers.old }
 {
-    let mut next = 0;
-    let mut kept = 0;
-    while next < present.len() {
-        let this = next;
-        next += 1;
-        if !present[this] {
+    let mut count = 0;
+    for (number, kept) in present.iter().enumerate() {
+        if !*kept {
             continue;
         }
-        numbers[kept] = this as u32;
-        kept += 1;
+        numbers[count] = number as u32;
+        count += 1;
     }
-    numbers[kept] = next as u32;
+    numbers[count] = present.len() as u32;
 }
 
 // The slimmer file: the clauses that are kept, the question behind them, and the trailer.
+#[tactic(auto, using(crate::proofs::Telling::write_laws))]
 pub fn write(file: &[u32], question: usize, present: &[bool], slimmer: &mut [u32], size: Size)
     requires ready { Ready file.now question × (length present.now ≡ length (table_in file.now).clauses) }
     requires sized { Sized (remaining (table_in file.now) present.now) size }

@@ -8,8 +8,8 @@ use Rattle.hukolearu.specs.Calls.{Given, refused, SearchAsked, search_inputs}
 use Rattle.hukolearu.specs.Says.{SearchAccepted}
 use Rattle.hukolearu.specs.Door.{entry_of}
 use Rattle.hukolearu.specs.declared.Outcome.{Outcome}
-use Rattle.hukolearu.specs.declared.door.Entry.{Entry}
-use Rattle.hukolearu.specs.declared.door.Entry.TheVariants.{Refused}
+use Rattle.std.specs.Prelude.{Result, Ok, Err}
+use Rattle.hukolearu.specs.declared.door.Refusal.{Refusal}
 use Rattle.hukolearu.proofs.DoorLaws.{shut, inside}
 use Rattle.hukolearu.proofs.Says.{search_accepted}
 use Rattle.smallest.specs.Smallest.{LeastGiven, from_bound, search_at, refused_all, smallest_call}
@@ -49,8 +49,8 @@ call_inside a ok =
     ∙ same_searches (search_at a) (search_inside (table_in a.file) a.answer_room) a.budget 0 (suc a.bound) 0
     (λ k b l. search_accepted _ (accepted_at a ok k b (omega arith)))
 
-module _ (a : SearchAsked) {entry : Entry} (says : entry ≡ entry_of a.file (search_inputs a)) where
-  pub call_refused : {status place : ℕ} → entry ≡ Refused status place → smallest_call a ≡ record { bound = 0; given = refused status place 0 }
+module _ (a : SearchAsked) {entry : Result ℕ Refusal} (says : entry ≡ entry_of a.file (search_inputs a)) where
+  pub call_refused : {refusal : Refusal} → entry ≡ Err refusal → smallest_call a ≡ record { bound = 0; given = refused refusal.status refusal.place 0 }
   unfolding smallest_call
   call_refused e = shut a.file (search_inputs a) says e refused_all _
 

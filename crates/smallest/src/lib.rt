@@ -9,7 +9,7 @@ ghost use Rattle.hukolearu.specs.Telling.{Passed};
 ghost use Rattle.smallest.specs.Smallest.{ended, summed, smallest_call};
 ghost use Rattle.smallest.specs.Trying.{Tells, tried_inside};
 
-use hukolearu::door::{Entry, Inputs};
+use hukolearu::door::Inputs;
 use hukolearu::{Outcome, calls, door, status};
 use unification::memory;
 
@@ -21,7 +21,7 @@ pub struct Least {
     pub outcome: Outcome,
 }
 
-// The bound of a search is told unless it ran out.
+// The bound of a search is told unless it ran out; else 0, as C gets it.
 fn told(bound: u32, status: u32) -> u32
     ensures { result ≡ ended bound status }
 {
@@ -37,15 +37,12 @@ fn summed(used: u32, outcome: Outcome) -> Outcome
     ensures { result ≡ summed used outcome }
 {
     Outcome {
-        status: outcome.status,
-        place: outcome.place,
-        proof: outcome.proof,
-        disjuncts: outcome.disjuncts,
-        answer: outcome.answer,
         tries: used + outcome.tries,
+        ..outcome
     }
 }
 
+#[tactic(auto, using(crate::proofs::Bounds::begins, crate::proofs::Bounds::all_tried, crate::proofs::Bounds::passed_at, crate::proofs::Bounds::sum_fits, crate::proofs::Bounds::next, crate::proofs::Bounds::over))]
 // Bound by bound, past the door: what is left of the budget goes to the next bound.
 fn tried(
     file: &[u32],
@@ -59,9 +56,8 @@ fn tried(
     requires { Passed file.now work.old question limit × (199 ≤ length proof.old) }
     ensures { Tells (tried_inside (table_in file.now) (length answer.old) budget limit) result proof.old proof.new answer.old answer.new }
 {
-    let mut bound = 0;
     let mut used = 0;
-    while bound <= limit {
+    for bound in 0..=limit {
         let outcome = calls::searched(file, question, bound, budget - used, proof, answer, work);
         let status = outcome.status;
         if status != status::NONE_FOUND {
@@ -71,7 +67,6 @@ fn tried(
             };
         }
         used += outcome.tries;
-        bound += 1;
     }
     Least {
         bound: 0,
@@ -100,16 +95,15 @@ pub fn smallest(
         proof: proof.len(),
         least: calls::LONGEST_PROOF,
     };
-    let entry = door::enter(file, inputs);
-    match entry {
-        Entry::Refused(status, place) => {
+    match door::enter(file, inputs) {
+        Err(refusal) => {
             door::leave(work);
             Least {
                 bound: 0,
-                outcome: calls::refused(status, place, 0),
+                outcome: calls::refused(refusal.status, refusal.place, 0),
             }
         }
-        Entry::Open(question) => {
+        Ok(question) => {
             let least = tried(
                 file,
                 question,

@@ -1,6 +1,6 @@
 -- Walking over a body, one law for each outcome, with premises as the code has them.
 use mathlib.Core.Path.{◌≡◌, refl, sym, ap, ◌∙◌}
-use mathlib.Core.Bool.{Bool, true, false, not}
+use mathlib.Core.Bool.{Bool, false, not, ◌||◌}
 use mathlib.Core.List.{List, [], ◌∷◌}
 use mathlib.Core.Option.{Option, none, some}
 use Prim.Native.Nat.{ℕ, zero, suc, ◌+◌, ◌-◌, ◌≤◌, ◌<◌, ◌^◌}
@@ -19,8 +19,9 @@ use Rattle.table.specs.Body.{reading, body_fault, starts, last_of, positive, any
 use Rattle.table.specs.File.{refused}
 use Rattle.table.specs.Readers.{IsWhole, IsMalformed, Judged, place_of, body_read, BeginsAt}
 use Rattle.table.specs.declared.Judgement.{Judgement}
-use Rattle.table.specs.declared.read.ClauseRead.{ClauseRead}
-use Rattle.table.specs.declared.read.ClauseRead.TheVariants.{Whole, Malformed}
+use Rattle.std.specs.Prelude.{Result, Ok, Err}
+use Rattle.table.specs.declared.read.Reached.{Reached}
+use Rattle.std.specs.List.{list_any}
 use Rattle.table.proofs.Bools.{and_right, cond_none}
 use Rattle.table.proofs.Mixing.{mixed_begin, mixed_end}
 use Rattle.table.proofs.Terms.{from_place}
@@ -113,21 +114,21 @@ module _ {body : List ℕ} where
       left : length (get_or body at 0 ∷ drop (at + 1) body) ≡ length body - at
       left = sym (ap (λ (l : List ℕ). length l) (from_place body at h)) ∙ length-drop at body
 
-      module _ (r : ClauseRead) (j : Judged (take (length body - at) (drop at body)) hash r) where
-        module _ {words k : ℕ} (e : r ≡ Whole words k) where
-          whole : IsWhole (get_or body at 0 ∷ drop (at + 1) body) hash words k
+      module _ (r : Result Reached ℕ) (j : Judged (take (length body - at) (drop at body)) hash r) where
+        module _ {p : Reached} (e : r ≡ Ok p) where
+          whole : IsWhole (get_or body at 0 ∷ drop (at + 1) body) hash p.at p.hash
           whole = rw (here, e) at j
 
-          mixed_clause : mixed hash (bytes_of (drop at body)) ≡ mixed k (bytes_of (drop (at + words) body))
+          mixed_clause : mixed hash (bytes_of (drop at body)) ≡ mixed p.hash (bytes_of (drop (at + p.at) body))
           mixed_clause =
               rw (from_place body at h) whole.mixes
-              ∙ ap (λ (ws : List ℕ). mixed k (bytes_of (drop words ws))) (sym (from_place body at h))
-              ∙ ap (λ (ws : List ℕ). mixed k (bytes_of ws)) (drop-drop words at body)
+              ∙ ap (λ (ws : List ℕ). mixed p.hash (bytes_of (drop p.at ws))) (sym (from_place body at h))
+              ∙ ap (λ (ws : List ℕ). mixed p.hash (bytes_of ws)) (drop-drop p.at at body)
 
-          pub walk_next : Walking body (at + words) (clauses + 1) at k
+          pub walk_next : Walking body (at + p.at) (clauses + 1) at p.hash
           unfolding last_of
           walk_next =
-              let more : starts at 0 (drop at body) ≡ at ∷ starts (at + words) 0 (drop (at + words) body) =
+              let more : starts at 0 (drop at body) ≡ at ∷ starts (at + p.at) 0 (drop (at + p.at) body) =
               next_starts body h whole.counts
               in
               record {
@@ -139,13 +140,13 @@ module _ {body : List ℕ} where
                 mixing = g.mixing ∙ mixed_clause;
               }
 
-          pub walk_steps : length body ≤ 16000 → Fits w64 (at + words)
+          pub walk_steps : length body ≤ 16000 → Fits w64 (at + p.at)
           walk_steps small = record { fits = omega (arith, whole.fits, left) }
 
-          pub walk_falls : length body - (at + words) < length body - at
+          pub walk_falls : length body - (at + p.at) < length body - at
           walk_falls = omega (arith, whole.counts)
 
-        module _ {place : ℕ} (e : r ≡ Malformed place) {q : ℕ} (eq : q ≡ place_of r) where
+        module _ {place : ℕ} (e : r ≡ Err place) {q : ℕ} (eq : q ≡ place_of r) where
           malformed : IsMalformed (get_or body at 0 ∷ drop (at + 1) body) q
           malformed = let same : q ≡ place = rw e at eq in rw (here, e, ← same) at j
 
@@ -164,6 +165,11 @@ module _ {body : List ℕ} where
 pub ruleset body_laws = (walk_begin, walk_done, walk_printed, walk_part, walk_next, walk_steps, walk_falls, walk_fits, walk_adds, walk_stops)
 
 -- a positive literal
+pub positive_any : (words : List ℕ) → list_any positive words ≡ any_positive words
+unfolding any_positive
+positive_any [] = refl
+positive_any (w ∷ ws) = ap (λ (b : Bool). positive w || b) (positive_any ws)
+
 module _ (w : ℕ) {k : ℕ} (e : k ≡ kind_of w) where
   pub literal_kind : k ≡ 2 → {n : Bool} → n ≡ negative_of w → not n ≡ positive w
   literal_kind p en = rw (eq-eqb (kind_of w) 2 (sym e ∙ p), en)
@@ -171,30 +177,7 @@ module _ (w : ℕ) {k : ℕ} (e : k ≡ kind_of w) where
   pub other_kind : (k ≡ 2 → ⊥) → false ≡ positive w
   other_kind p = rw (ne_eqb (kind_of w) 2 (λ q. p (e ∙ q)))
 
--- no literal so far is positive
-pub Passing : List ℕ → ℕ → Type 0
-Passing words i = any_positive words ≡ any_positive (drop i words)
-
-module _ (words : List ℕ) where
-  pub positive_begin : Passing words 0
-  unfolding Passing
-  positive_begin = refl
-
-  module _ {i : ℕ} (g : Passing words i) where
-    pub positive_none : length words ≤ i → false ≡ any_positive words
-    unfolding Passing any_positive
-    positive_none h = sym (rw (drop_of_length-le words h) at g)
-
-    module _ (h : i < length words) {p : Bool} (e : p ≡ positive (get_or words i 0)) where
-      pub positive_found : p ≡ true → true ≡ any_positive words
-      unfolding Passing any_positive
-      positive_found t = sym (rw (from_place words i h, sym e ∙ t) at g)
-
-      pub positive_next : p ≡ false → Passing words (i + 1)
-      unfolding Passing any_positive
-      positive_next t = rw (from_place words i h, sym e ∙ t) at g
-
-pub ruleset positive_laws = (literal_kind, other_kind, positive_begin, positive_none, positive_found, positive_next)
+pub ruleset positive_laws = (literal_kind, other_kind)
 
 -- where no fault follows, the clause has none; and the body holds the words of a clause that has none
 pub reading_none : (o : Option ℕ) (at : ℕ) (further : Unit {0} → Option ℕ) → reading o at further ≡ none → o ≡ none

@@ -2,48 +2,46 @@
 use mathlib.Core.Path.{◌≡◌, refl, sym, ◌∙◌}
 use mathlib.Core.Bool.{Bool, true, false}
 use mathlib.Core.List.{List, [], ◌∷◌}
-use mathlib.Core.Option.{some}
 use Prim.Native.Nat.{ℕ, suc, ◌+◌, ◌-◌, ◌≤◌, ◌<◌}
 use native.Mathlib.Nat.{add-zero}
 use native.Mathlib.Numerals.{add-one}
 use native.Mathlib.Omega.{arith}
-use lib.Dec.{leb}
 use lib.ListN.{length, take, drop, get_or, drop_of_length-le, length-drop}
 use lib.Seq.{length-take-le, take-nil, get_or-take}
 use borrow.Author.Tests.{leb-true}
 use Rattle.words.specs.Fingerprint.{mixed, word_bytes, bytes_of}
 use Rattle.words.specs.Fields.{arity_of, literals_of, variables_of, following_of, literal_shaped, clause_shaped}
 use Rattle.table.specs.Reading.{clause_fits, after_literal, after, stops_short, onward, fault, clause_fault}
-use Rattle.table.specs.Readers.{place_read, goes_on, Lies, Mixes, TermsRead, LiteralRead, LiteralsRead, WholeWords, FaultyWords, WordsJudged, IsMalformed, Judged}
-use Rattle.table.specs.declared.read.Reading.{Reading}
-use Rattle.table.specs.declared.read.Reading.TheVariants.{Next, Wrong}
-use Rattle.table.specs.declared.read.ClauseRead.{ClauseRead}
-use Rattle.table.specs.declared.read.ClauseRead.TheVariants.{Whole, Malformed}
+use Rattle.table.specs.Readers.{goes_on, Lies, TermsRead, LiteralRead, LiteralsRead, WholeWords, FaultyWords, WordsJudged, IsMalformed, Judged}
+use Rattle.std.specs.Prelude.{Result, Ok, Err}
+use Rattle.table.specs.declared.read.Reached.{Reached}
 use Rattle.table.proofs.Bools.{and_right}
 use Rattle.table.proofs.Mixing.{mixed_step, mixed_end, mixed_part}
-use Rattle.table.proofs.Terms.{from_place, mixes_after}
+use Rattle.table.proofs.Terms.{from_place, further, mixes_after}
 
 module _ {v : ℕ} {own : List ℕ} {at h : ℕ} where
-  pub literal_missing : length own ≤ at → at ≤ length own → LiteralRead v own at h (Wrong at)
+  pub literal_missing : length own ≤ at → at ≤ length own → LiteralRead v own at h (Err at)
   unfolding fault stops_short
   literal_missing n k = record { faults = λ l. rw (drop_of_length-le own n); lies = k; mixes = tt }
 
   module _ (n : at < length own) {q : Bool} (e : q ≡ literal_shaped (get_or own at 0)) where
-    pub literal_wrong : q ≡ false → LiteralRead v own at h (Wrong at)
+    pub literal_wrong : q ≡ false → LiteralRead v own at h (Err at)
     unfolding fault onward after after_literal
     literal_wrong p = record { faults = λ l. rw (from_place own at n, sym e ∙ p); lies = omega arith; mixes = tt }
 
-    pub literal_read : q ≡ true → {a : ℕ} → a ≡ arity_of (get_or own at 0) → {k : ℕ} → k ≡ mixed h (word_bytes (get_or own at 0)) → {r : Reading} → TermsRead v own (at + 1) a k r → LiteralRead v own at h r
+    pub literal_read : q ≡ true → {a : ℕ} → a ≡ arity_of (get_or own at 0) → {p : Reached} → p ≡ further own at h → {r : Result Reached ℕ} → TermsRead v own p.at a p.hash r → LiteralRead v own at h r
     unfolding fault onward after after_literal
-    literal_read p {a} ea ek {r} read = record {
-      faults = λ l. rw (from_place own at n, sym e ∙ p, ← ea) (rw add-zero at (read.faults l 0));
-      lies = lower r read.lies;
-      mixes = mixes_after own at n h ek r read.mixes;
-    }
+    literal_read t {a} ea {p} ep {r} read' =
+        let read : TermsRead v own (at + 1) a (mixed h (word_bytes (get_or own at 0))) r = rw ep at read' in
+        record {
+          faults = λ l. rw (from_place own at n, sym e ∙ t, ← ea) (rw add-zero at (read.faults l 0));
+          lies = lower r read.lies;
+          mixes = mixes_after own at n h r read.mixes;
+        }
       where
-        lower : (r : Reading) → Lies (at + 1) (length own) r → Lies at (length own) r
-        lower (Next next m) k = (omega arith, k.1)
-        lower (Wrong place) k = k
+        lower : (r : Result Reached ℕ) → Lies (at + 1) (length own) r → Lies at (length own) r
+        lower (Ok reached) k = (omega arith, k.1)
+        lower (Err place) k = k
 
 -- how far the reading of so many literals has come: so many are left from the next place on
 pub record GoingLiterals (v : ℕ) (own : List ℕ) (many hash next left h : ℕ) : Type 0 where
@@ -57,50 +55,43 @@ module _ {v : ℕ} {own : List ℕ} {many hash : ℕ} where
   literals_begin n = record { from = omega arith; within = n; same = refl; mixing = refl }
 
   module _ {next left h : ℕ} (g : GoingLiterals v own many hash next left h) where
-    pub literals_done : left ≤ 0 → LiteralsRead v own many hash (Next next h)
-    literals_done n =
+    pub literals_done : left ≤ 0 → {r : Reached} → r ≡ record { at = next; hash = h } → LiteralsRead v own many hash (Ok r)
+    literals_done n {r} e =
         let z : left ≡ 0 = omega arith in
-        record { faults = rw z at g.same; lies = (g.from, g.within); mixes = g.mixing }
+        rw e (record { faults = rw z at g.same; lies = (g.from, g.within); mixes = g.mixing })
 
-    module _ (some : 0 < left) {r : Reading} (read : LiteralRead v own next h r) where
-      one_fewer : fault v many 0 1 (drop 1 own) ≡ goes_on v own (left - 1) 0 r
-      one_fewer = let z : left ≡ suc (left - 1) = omega arith in rw z at g.same ∙ read.faults (left - 1)
+    module _ (some : 0 < left) where
+      one_fewer : {r : Result Reached ℕ} → LiteralRead v own next h r → fault v many 0 1 (drop 1 own) ≡ goes_on v own (left - 1) 0 r
+      one_fewer read = let z : left ≡ suc (left - 1) = omega arith in rw z at g.same ∙ read.faults (left - 1)
 
-      pub literals_wrong : {place : ℕ} → r ≡ Wrong place → LiteralsRead v own many hash r
-      literals_wrong {place} e =
-          record { faults = rw e (rw e at one_fewer); lies = rw e (rw e at read.lies); mixes = rw e tt }
+      pub literals_wrong : {place : ℕ} → LiteralRead v own next h (Err place) → LiteralsRead v own many hash (Err place)
+      literals_wrong read = record { faults = one_fewer read; lies = read.lies; mixes = tt }
 
-      pub literals_next : {further k : ℕ} → r ≡ Next further k → GoingLiterals v own many hash further (left - 1) k
-      literals_next {further} {k} e =
-          let lies : Lies next (length own) (Next further k) = rw e at read.lies in
-          let mixes : Mixes own next h (Next further k) = rw e at read.mixes in
-          record { from = omega (arith, g.from); within = lies.1; same = rw e at one_fewer; mixing = g.mixing ∙ mixes }
+      pub literals_next : {p : Reached} → LiteralRead v own next h (Ok p) → GoingLiterals v own many hash p.at (left - 1) p.hash
+      literals_next read =
+          record { from = omega (arith, g.from, read.lies.0); within = read.lies.1; same = one_fewer read; mixing = g.mixing ∙ read.mixes }
 
 pub ruleset literals_laws = (literal_missing, literal_wrong, literal_read, literals_begin, literals_done, literals_wrong, literals_next)
 
-module _ {own : List ℕ} {v n h : ℕ} (ev : v ≡ variables_of (get_or own 0 0)) (en : n ≡ literals_of (get_or own 0 0)) {r : Reading} (read : LiteralsRead v own n h r) where
-  read_through : fault (variables_of (get_or own 0 0)) (literals_of (get_or own 0 0)) 0 1 (drop 1 own) ≡ goes_on v own 0 0 r
-  read_through = rw (← ev, ← en) read.faults
+module _ {own : List ℕ} {v n h : ℕ} (ev : v ≡ variables_of (get_or own 0 0)) (en : n ≡ literals_of (get_or own 0 0)) where
+  read_through : {r : Result Reached ℕ} → LiteralsRead v own n h r → fault (variables_of (get_or own 0 0)) (literals_of (get_or own 0 0)) 0 1 (drop 1 own) ≡ goes_on v own 0 0 r
+  read_through read = rw (← ev, ← en) read.faults
 
-  pub words_wrong : {place : ℕ} → r ≡ Wrong place → {q : ℕ} → q ≡ place_read r → FaultyWords own q
-  words_wrong {place} e {q} eq =
-      let same : q ≡ place = rw e at eq in record { faulty = rw same (rw e at read_through); fits = rw same (rw e at read.lies) }
+  pub words_wrong : {place : ℕ} → LiteralsRead v own n h (Err place) → FaultyWords own place
+  words_wrong read = record { faulty = read_through read; fits = read.lies }
 
-  module _ {next k : ℕ} (e : r ≡ Next next k) where
-    pub words_left_over : next < length own → FaultyWords own next
+  module _ {p : Reached} (read : LiteralsRead v own n h (Ok p)) where
+    pub words_left_over : p.at < length own → FaultyWords own p.at
     unfolding fault onward after
-    words_left_over m =
-        record { faulty = rw (from_place own next m) at (rw e at read_through); fits = omega arith }
+    words_left_over m = record { faulty = rw (from_place own p.at m) at (read_through read); fits = omega arith }
 
-    pub words_whole : length own ≤ next → 1 ≤ length own → {hash : ℕ} → h ≡ mixed hash (word_bytes (get_or own 0 0)) → WholeWords own hash next k
+    pub words_whole : length own ≤ p.at → 1 ≤ length own → {hash : ℕ} → h ≡ mixed hash (word_bytes (get_or own 0 0)) → WholeWords own hash p.at p.hash
     unfolding fault stops_short
     words_whole m begins {hash} eh =
-        let lies : Lies 1 (length own) (Next next k) = rw e at read.lies in
-        let mixes : Mixes own 1 h (Next next k) = rw e at read.mixes in
         record {
-          sound = rw (drop_of_length-le own m) at (rw e at read_through);
-          counts = omega arith;
-          mixes = sym (mixed_step own 0 (omega arith) hash eh ∙ mixes ∙ mixed_end own next m k);
+          sound = rw (drop_of_length-le own m) at (read_through read);
+          counts = omega (arith, read.lies.1);
+          mixes = sym (mixed_step own 0 (omega arith) hash eh ∙ read.mixes ∙ mixed_end own p.at m p.hash);
         }
 
 pub ruleset words_laws = (words_wrong, words_left_over, words_whole)
@@ -114,12 +105,6 @@ first_own : (part : List ℕ) (n : ℕ) → get_or (take (n + 1) part) 0 0 ≡ g
 first_own part n = get_or-take (n + 1) part 0 0 (omega arith)
 
 module _ (part : List ℕ) where
-  pub shaped_clause : {s : Bool} → s ≡ clause_shaped (get_or part 0 0) → s ≡ true → {f g : ℕ} → f ≡ following_of (get_or part 0 0) → g ≡ f → leb g (length part - 1) ≡ clause_fits (get_or part 0 0) (drop 1 part)
-  shaped_clause es p ef eg = rw (sym es ∙ p, length-drop, eg, ef)
-
-  pub unshaped_clause : {s : Bool} → s ≡ clause_shaped (get_or part 0 0) → s ≡ false → false ≡ clause_fits (get_or part 0 0) (drop 1 part)
-  unshaped_clause es p = rw (sym es ∙ p)
-
   module _ {s : Bool} (es : s ≡ clause_fits (get_or part 0 0) (drop 1 part)) where
     pub clause_unfit : s ≡ false → IsMalformed part 0
     unfolding clause_fault
@@ -142,16 +127,16 @@ module _ (part : List ℕ) where
       unfolding clause_fault
       fault-own = rw (sym es ∙ p, first_own part g, after_own part g, eg, ef)
 
-      pub judged : 1 ≤ length part → (hash : ℕ) (r : ClauseRead) → WordsJudged (take (g + 1) part) hash r → Judged part hash r
-      judged h hash (Whole words k) j =
-          let n : words ≡ g + 1 = omega (arith, j.counts, own_length h) in
+      pub judged : 1 ≤ length part → (hash : ℕ) (r : Result Reached ℕ) → WordsJudged (take (g + 1) part) hash r → Judged part hash r
+      judged h hash (Ok p) j =
+          let n : p.at ≡ g + 1 = omega (arith, j.counts, own_length h) in
           record {
             sound = fault-own ∙ j.sound;
             counts = omega (arith, j.counts, own_length h);
             fits = omega (arith, j.counts, own_length h, clause-held h);
             mixes = rw (n, j.mixes) (mixed_part (g + 1) part hash);
           }
-      judged h hash (Malformed place) j =
+      judged h hash (Err place) j =
           record { faulty = fault-own ∙ j.faulty; fits = omega (arith, j.fits, own_length h, clause-held h) }
 
-pub ruleset clause_laws = (shaped_clause, unshaped_clause, clause_unfit, own_length, own_begins, judged)
+pub ruleset clause_laws = (clause_unfit, own_length, own_begins, judged)

@@ -3,12 +3,12 @@ use mathlib.Core.Path.{◌≡◌, refl, sym, ap, ap₂, ◌∙◌}
 use mathlib.Core.Bool.{Bool, true, false}
 use mathlib.Core.List.{List, [], ◌∷◌, ◌++◌, append_assoc}
 use mathlib.Core.Option.{none, some}
-use Prim.Native.Nat.{ℕ, zero, suc, ◌+◌, ◌^◌, ◌<◌}
+use Prim.Native.Nat.{ℕ, zero, suc, ◌+◌}
 use native.Mathlib.Omega.{arith}
 use lib.Dec.{ltb}
 use lib.ListN.{length}
 use borrow.Author.Tests.{eq-eqb, ne_eqb, ltb-true}
-use Rattle.words.specs.Fields.{kind_of, number_of, symbol_of, arity_of, negative_of, variable_shaped, function_shaped, literal_shaped, variable_word, function_word, literal_word}
+use Rattle.words.specs.Fields.{kind_of, number_of, symbol_of, arity_of, negative_of, variable_shaped, function_shaped, literal_shaped, function_word, literal_word}
 use Rattle.words.proofs.Packed.{bits_small, plain_kind, variable_word_lem, function_plain, function_arity_small, function_word_lem, literal_plain, literal_arity_small, literal_word_lem}
 use Rattle.table.specs.Syntax.{var, app, Terms, nil, ◌then◌, arity}
 use Rattle.table.specs.Encode.{term_words, terms_words, literal_words, literals_words}

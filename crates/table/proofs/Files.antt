@@ -11,36 +11,13 @@ use lib.Seq.{length-take-le}
 use borrow.Author.Tests.{eq-eqb, ne_eqb, le-leb, lt-leb, eqb-true, leb-true, ltb-true}
 use Rattle.words.specs.Fields.{restricted_of}
 use Rattle.words.specs.Fingerprint.{fingerprint}
-use Rattle.table.specs.Body.{body_fault, last_of, any_positive}
+use Rattle.table.specs.Body.{body_fault, last_of, any_positive, positive}
 use Rattle.table.specs.File.{body_of, trailer, clause_starts, size_fits, trailer_fits, fingerprint_fits, clauses_fit, question_words, question_restricted, refused, judge_read, judge_body, judge}
 use Rattle.table.specs.Readers.{body_read}
 use Rattle.table.specs.declared.Judgement.{Judgement}
 use Rattle.table.proofs.Bools.{and_left, and_right}
-use Rattle.table.proofs.Bodies.{part_from}
-
-module _ (file : List ℕ) {t3 q3 : ℕ} (e3 : t3 ≡ trailer file 3) (w3 : q3 ≡ t3) where
-  pub length_differs : (q3 ≡ length file - 4 → ⊥) → false ≡ trailer_fits file
-  unfolding trailer_fits
-  length_differs n = rw (ne_eqb (trailer file 3) (length file - 4) (λ p. n (w3 ∙ e3 ∙ p)))
-
-  module _ (p3 : q3 ≡ length file - 4) {t1 : ℕ} (e1 : t1 ≡ trailer file 1) where
-    pub no_clauses : t1 < 1 → false ≡ trailer_fits file
-    unfolding trailer_fits
-    no_clauses h =
-        rw (eq-eqb (trailer file 3) (length file - 4) (sym e3 ∙ sym w3 ∙ p3), lt-leb 1 (trailer file 1) (rw e1 at h))
-
-    module _ (some : 1 ≤ t1) where
-      pub many_clauses : 512 < t1 → false ≡ trailer_fits file
-      unfolding trailer_fits
-      many_clauses h =
-          rw (eq-eqb (trailer file 3) (length file - 4) (sym e3 ∙ sym w3 ∙ p3), le-leb 1 (trailer file 1) (rw e1 at some), lt-leb (trailer file 1) 512 (rw e1 at h))
-
-      pub question_below : t1 ≤ 512 → {t0 u3 : ℕ} → t0 ≡ trailer file 0 → u3 ≡ trailer file 3 → ltb t0 u3 ≡ trailer_fits file
-      unfolding trailer_fits
-      question_below h e0 d3 =
-          rw (eq-eqb (trailer file 3) (length file - 4) (sym e3 ∙ sym w3 ∙ p3), le-leb 1 (trailer file 1) (rw e1 at some), le-leb (trailer file 1) 512 (rw e1 at h), e0, d3)
-
-pub ruleset trailer_laws = (length_differs, no_clauses, many_clauses, question_below)
+use Rattle.std.specs.List.{list_any}
+use Rattle.table.proofs.Bodies.{part_from, positive_any}
 
 pub record TrailerRight (file : List ℕ) : Type 0 where
   pub whole : trailer file 3 ≡ length file - 4
@@ -70,9 +47,10 @@ module _ (file : List ℕ) {t0 q0 : ℕ} (e0 : t0 ≡ trailer file 0) (w0 : q0 �
   question_within fits =
       let right = trailer_right file fits in omega (arith, right.whole, right.below, body_length file)
 
-  pub question_last : {a : Bool} → a ≡ any_positive (take (length (body_of file) - q0) (drop q0 (body_of file))) → a ≡ any_positive (question_words file)
+  pub question_last : {a : Bool} → a ≡ list_any positive (take (length (body_of file) - q0) (drop q0 (body_of file))) → a ≡ any_positive (question_words file)
   question_last ea =
       ea
+      ∙ positive_any (take (length (body_of file) - q0) (drop q0 (body_of file)))
       ∙ ap (λ (l : List ℕ). any_positive l) (part_from (body_of file) q0)
       ∙ ap (λ (n : ℕ). any_positive (drop n (body_of file))) (w0 ∙ e0)
 

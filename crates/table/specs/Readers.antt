@@ -1,5 +1,5 @@
 -- What the inner readers promise one another. The public contracts rest on none of this: a reader of them need not believe it.
-use Rattle.std.specs.Prelude.{List, ◌≡◌, ℕ, suc, ◌+◌, ◌≤◌, length, drop, get_or}
+use Rattle.std.specs.Prelude.{List, ◌≡◌, ℕ, suc, ◌+◌, ◌≤◌, length, drop, get_or, Result, Ok, Err}
 use Rattle.std.proofs.Math.Option.{Option, none, some}
 use Rattle.words.specs.Fields.{literals_of, variables_of, following_of}
 use Rattle.words.specs.Fingerprint.{mixed, bytes_of}
@@ -7,50 +7,42 @@ use Rattle.table.specs.Reading.{fault, clause_fault}
 use Rattle.table.specs.Body.{starts, last_of}
 use Rattle.table.specs.File.{refused}
 use Rattle.table.specs.declared.Judgement.{Judgement}
-use Rattle.table.specs.declared.read.Reading.{Reading}
-use Rattle.table.specs.declared.read.Reading.TheVariants.{Next, Wrong}
-use Rattle.table.specs.declared.read.ClauseRead.{ClauseRead}
-use Rattle.table.specs.declared.read.ClauseRead.TheVariants.{Whole, Malformed}
-
--- the place that a reading came to
-abbrev pub place_read : Reading → ℕ
-place_read (Next next h) = next
-place_read (Wrong place) = place
+use Rattle.table.specs.declared.read.Reached.{Reached}
 
 -- the first fault where so much is still owed after what was read
-abbrev pub goes_on : ℕ → List ℕ → ℕ → ℕ → Reading → Option ℕ
-goes_on variables own l t (Next next h) = fault variables l t next (drop next own)
-goes_on variables own l t (Wrong place) = some place
+abbrev pub goes_on : ℕ → List ℕ → ℕ → ℕ → Result Reached ℕ → Option ℕ
+goes_on variables own l t (Ok reached) = fault variables l t reached.at (drop reached.at own)
+goes_on variables own l t (Err place) = some place
 
 -- reading goes on within the words, at the least place or after it
-abbrev pub Lies : ℕ → ℕ → Reading → Type 0
-Lies least most (Next next h) = (least ≤ next) × (next ≤ most)
-Lies least most (Wrong place) = place ≤ most
+abbrev pub Lies : ℕ → ℕ → Result Reached ℕ → Type 0
+Lies least most (Ok reached) = (least ≤ reached.at) × (reached.at ≤ most)
+Lies least most (Err place) = place ≤ most
 
 -- the fingerprint has been taken up to the place where reading goes on: the words from there on bring both to the same
-abbrev pub Mixes : List ℕ → ℕ → ℕ → Reading → Type 0
-Mixes own at hash (Next next h) = mixed hash (bytes_of (drop at own)) ≡ mixed h (bytes_of (drop next own))
-Mixes own at hash (Wrong place) = Unit {0}
+abbrev pub Mixes : List ℕ → ℕ → ℕ → Result Reached ℕ → Type 0
+Mixes own at hash (Ok reached) = mixed hash (bytes_of (drop at own)) ≡ mixed reached.hash (bytes_of (drop reached.at own))
+Mixes own at hash (Err place) = Unit {0}
 
 -- so many terms have been read from a place on
-pub record TermsRead (variables : ℕ) (own : List ℕ) (at many hash : ℕ) (r : Reading) : Type 0 where
+pub record TermsRead (variables : ℕ) (own : List ℕ) (at many hash : ℕ) (r : Result Reached ℕ) : Type 0 where
   pub faults : (l t : ℕ) → fault variables l (many + t) at (drop at own) ≡ goes_on variables own l t r
   pub lies : Lies at (length own) r
   pub mixes : Mixes own at hash r
 
 -- one term has been read
-pub record TermRead (variables : ℕ) (own : List ℕ) (at hash : ℕ) (r : Reading) : Type 0 where
+pub record TermRead (variables : ℕ) (own : List ℕ) (at hash : ℕ) (r : Result Reached ℕ) : Type 0 where
   pub faults : (l t : ℕ) → fault variables l (suc t) at (drop at own) ≡ goes_on variables own l t r
   pub lies : Lies (suc at) (length own) r
   pub mixes : Mixes own at hash r
 
 -- a literal has been read; all of so many literals have been read
-pub record LiteralRead (variables : ℕ) (own : List ℕ) (at hash : ℕ) (r : Reading) : Type 0 where
+pub record LiteralRead (variables : ℕ) (own : List ℕ) (at hash : ℕ) (r : Result Reached ℕ) : Type 0 where
   pub faults : (l : ℕ) → fault variables (suc l) 0 at (drop at own) ≡ goes_on variables own l 0 r
   pub lies : Lies at (length own) r
   pub mixes : Mixes own at hash r
 
-pub record LiteralsRead (variables : ℕ) (own : List ℕ) (many hash : ℕ) (r : Reading) : Type 0 where
+pub record LiteralsRead (variables : ℕ) (own : List ℕ) (many hash : ℕ) (r : Result Reached ℕ) : Type 0 where
   pub faults : fault variables many 0 1 (drop 1 own) ≡ goes_on variables own 0 0 r
   pub lies : Lies 1 (length own) r
   pub mixes : Mixes own 1 hash r
@@ -65,9 +57,9 @@ pub record FaultyWords (own : List ℕ) (place : ℕ) : Type 0 where
   pub faulty : fault (variables_of (get_or own 0 0)) (literals_of (get_or own 0 0)) 0 1 (drop 1 own) ≡ some place
   pub fits : place ≤ length own
 
-abbrev pub WordsJudged : List ℕ → ℕ → ClauseRead → Type 0
-WordsJudged own hash (Whole words h) = WholeWords own hash words h
-WordsJudged own hash (Malformed place) = FaultyWords own place
+abbrev pub WordsJudged : List ℕ → ℕ → Result Reached ℕ → Type 0
+WordsJudged own hash (Ok reached) = WholeWords own hash reached.at reached.hash
+WordsJudged own hash (Err place) = FaultyWords own place
 
 -- a clause has been judged from a part that begins at its own word: it is whole and has so many words, or its first fault has this place
 pub record IsWhole (part : List ℕ) (hash words h : ℕ) : Type 0 where
@@ -80,13 +72,13 @@ pub record IsMalformed (part : List ℕ) (place : ℕ) : Type 0 where
   pub faulty : clause_fault (get_or part 0 0) (drop 1 part) ≡ some place
   pub fits : place ≤ length part
 
-abbrev pub Judged : List ℕ → ℕ → ClauseRead → Type 0
-Judged part hash (Whole words h) = IsWhole part hash words h
-Judged part hash (Malformed place) = IsMalformed part place
+abbrev pub Judged : List ℕ → ℕ → Result Reached ℕ → Type 0
+Judged part hash (Ok reached) = IsWhole part hash reached.at reached.hash
+Judged part hash (Err place) = IsMalformed part place
 
-abbrev pub place_of : ClauseRead → ℕ
-place_of (Whole words h) = words
-place_of (Malformed place) = place
+abbrev pub place_of : Result Reached ℕ → ℕ
+place_of (Ok reached) = reached.at
+place_of (Err place) = place
 
 -- a body has been read: status 7 with the place of the first fault; else the number of clauses read, and where the last begins
 abbrev pub body_read : List ℕ → Option ℕ → Judgement

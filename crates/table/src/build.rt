@@ -9,11 +9,7 @@ pub fn append(file: &mut [u32], at: usize, words: &[u32])
     requires { at + length words.now ≤ length file.old }
     ensures { file.new ≡ behind file.old at words.now }
 {
-    let mut i = 0;
-    while i < words.len() {
-        file[at + i] = words[i];
-        i += 1;
-    }
+    file[at..at + words.len()].copy_from_slice(words);
 }
 
 // Writes the trailer behind a body of so many words that stands at the front.

@@ -1,8 +1,10 @@
 // The verbs of a table.
+use requests::request::Field;
 use requests::{piece, records, request};
 use results::{clause, counts, desk as said, slimmed};
 use std::io;
 use text::part;
+use words::room;
 
 fn lookup(rt: &impl Print, file: &[u32], number: usize) -> io::Result<()> {
     let mut out = [0u8; 4096];
@@ -12,7 +14,7 @@ fn lookup(rt: &impl Print, file: &[u32], number: usize) -> io::Result<()> {
 }
 
 fn answer_lookup(rt: &impl Print, line: &[u8], values: &[usize]) -> io::Result<()> {
-    let mut space = lent::file_buffer();
+    let mut space: [u32; lent::FILE_ROOM] = room::filled(0);
     let n = piece::gather(line, request::place(values, 1), &mut space);
     lookup(rt, part::front(&space, n), request::place(values, 0))
 }
@@ -24,7 +26,7 @@ fn slim_file(
     numbers: &mut [u32],
 ) -> io::Result<()> {
     let s = slim::calls::slim(file, slimmer, numbers);
-    let mut out = lent::line_buffer();
+    let mut out: [u8; lent::LINE_ROOM] = room::filled(0);
     let n = slimmed::slimmed(
         &mut out, 0, s.status, s.place, s.words, s.clauses, slimmer, numbers,
     );
@@ -33,15 +35,15 @@ fn slim_file(
 
 // Lends the words for the slimmer file and for the old numbers that are asked for.
 fn lend_slim(rt: &impl Print, file: &[u32], words: usize, numbers: usize) -> io::Result<()> {
-    let mut slimmer = lent::long_buffer();
-    let mut old = lent::long_buffer();
-    let a = lent::least(words, 20000);
-    let b = lent::least(numbers, 20000);
+    let mut slimmer: [u32; lent::LONG_ROOM] = room::filled(lent::FILLED);
+    let mut old: [u32; lent::LONG_ROOM] = room::filled(lent::FILLED);
+    let a = words.min(lent::LONG_ROOM);
+    let b = numbers.min(lent::LONG_ROOM);
     slim_file(rt, file, &mut slimmer[..a], &mut old[..b])
 }
 
 fn answer_slim(rt: &impl Print, line: &[u8], values: &[usize]) -> io::Result<()> {
-    let mut space = lent::file_buffer();
+    let mut space: [u32; lent::FILE_ROOM] = room::filled(0);
     let n = piece::gather(line, request::place(values, 2), &mut space);
     lend_slim(
         rt,
@@ -52,7 +54,7 @@ fn answer_slim(rt: &impl Print, line: &[u8], values: &[usize]) -> io::Result<()>
 }
 
 fn answer_desk(rt: &impl Print, line: &[u8], values: &[usize]) -> io::Result<()> {
-    let mut space = lent::record_buffer();
+    let mut space: [u32; lent::RECORD_ROOM] = room::filled(0);
     let n = records::gather(line, request::place(values, 5), &mut space);
     let report = desk::ask_desk(
         part::front(&space, n),
@@ -78,7 +80,7 @@ fn report_season(
     work: &mut [u32],
 ) -> io::Result<()> {
     let r = season::season(table, entries, list, proof, answer, work);
-    let mut out = lent::line_buffer();
+    let mut out: [u8; lent::LINE_ROOM] = room::filled(0);
     let n = counts::season(&mut out, 0, r, proof, answer, work);
     lent::write_line(rt, &out, n)
 }
@@ -93,12 +95,12 @@ fn lend_season(
     answers: usize,
     works: usize,
 ) -> io::Result<()> {
-    let mut proof = lent::short_buffer();
-    let mut answer = lent::long_buffer();
-    let mut work = lent::long_buffer();
-    let p = lent::least(proofs, 300);
-    let a = lent::least(answers, 20000);
-    let w = lent::least(works, 20000);
+    let mut proof: [u32; lent::PROOF_ROOM] = room::filled(lent::FILLED);
+    let mut answer: [u32; lent::LONG_ROOM] = room::filled(lent::FILLED);
+    let mut work: [u32; lent::LONG_ROOM] = room::filled(lent::FILLED);
+    let p = proofs.min(lent::PROOF_ROOM);
+    let a = answers.min(lent::LONG_ROOM);
+    let w = works.min(lent::LONG_ROOM);
     report_season(
         rt,
         table,
@@ -111,11 +113,11 @@ fn lend_season(
 }
 
 fn answer_season(rt: &impl Print, line: &[u8], values: &[usize]) -> io::Result<()> {
-    let mut space = lent::file_buffer();
+    let mut space: [u32; lent::FILE_ROOM] = room::filled(0);
     let n = piece::gather(line, request::place(values, 5), &mut space);
-    let mut entries = lent::entry_buffer();
+    let mut entries: [u32; lent::ENTRY_ROOM] = room::filled(0);
     let m = piece::gather(line, request::place(values, 3), &mut entries);
-    let mut list = lent::file_buffer();
+    let mut list: [u32; lent::FILE_ROOM] = room::filled(0);
     let l = piece::gather(line, request::place(values, 4), &mut list);
     lend_season(
         rt,
@@ -130,15 +132,23 @@ fn answer_season(rt: &impl Print, line: &[u8], values: &[usize]) -> io::Result<(
 
 // The verbs of a table.
 pub fn answer_tables(rt: &impl Print, line: &[u8], values: &mut [usize]) -> io::Result<bool> {
-    if request::asks(line, b"lookup", b"nw", &[lent::ANY, lent::FILE], values) {
+    if request::asks(
+        line,
+        b"lookup",
+        &[Field::Number(lent::ANY), Field::Words(lent::FILE)],
+        values,
+    ) {
         answer_lookup(rt, line, values)?;
         return Ok(true);
     }
     if request::asks(
         line,
         b"slim",
-        b"nnw",
-        &[lent::FILE, lent::NUMBERS, lent::FILE],
+        &[
+            Field::Number(lent::FILE),
+            Field::Number(lent::NUMBERS),
+            Field::Words(lent::FILE),
+        ],
         values,
     ) {
         answer_slim(rt, line, values)?;
@@ -147,14 +157,13 @@ pub fn answer_tables(rt: &impl Print, line: &[u8], values: &mut [usize]) -> io::
     if request::asks(
         line,
         b"desk",
-        b"nnnnnr",
         &[
-            lent::ANY,
-            lent::ANY,
-            lent::ANY,
-            lent::ANY,
-            lent::ANY,
-            lent::RECORDS,
+            Field::Number(lent::ANY),
+            Field::Number(lent::ANY),
+            Field::Number(lent::ANY),
+            Field::Number(lent::ANY),
+            Field::Number(lent::ANY),
+            Field::Records(lent::RECORDS),
         ],
         values,
     ) {
@@ -164,14 +173,13 @@ pub fn answer_tables(rt: &impl Print, line: &[u8], values: &mut [usize]) -> io::
     if request::asks(
         line,
         b"season",
-        b"nnnwww",
         &[
-            lent::LONG,
-            lent::PROOF,
-            lent::LONG,
-            lent::ENTRIES,
-            lent::FILE,
-            lent::FILE,
+            Field::Number(lent::LONG),
+            Field::Number(lent::PROOF),
+            Field::Number(lent::LONG),
+            Field::Words(lent::ENTRIES),
+            Field::Words(lent::FILE),
+            Field::Words(lent::FILE),
         ],
         values,
     ) {

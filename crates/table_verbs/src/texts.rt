@@ -1,45 +1,47 @@
 // The verbs of text.
+use requests::request::Field;
 use requests::{bytes, piece, request};
 use results::textual;
 use std::io;
 use text::part;
+use words::room;
 
 fn read_text(rt: &impl Print, text: &[u8], file: &mut [u32]) -> io::Result<()> {
     let r = tptp::call::read(text, file);
-    let mut out = lent::line_buffer();
+    let mut out: [u8; lent::LINE_ROOM] = room::filled(0);
     let n = textual::read_text(&mut out, 0, r.status, r.place, r.words, file);
     lent::write_line(rt, &out, n)
 }
 
 // Lends the words for the file that are asked for.
 fn lend_file(rt: &impl Print, text: &[u8], words: usize) -> io::Result<()> {
-    let mut file = lent::long_buffer();
-    let w = lent::least(words, 20000);
+    let mut file: [u32; lent::LONG_ROOM] = room::filled(lent::FILLED);
+    let w = words.min(lent::LONG_ROOM);
     read_text(rt, text, &mut file[..w])
 }
 
 fn answer_text(rt: &impl Print, line: &[u8], values: &[usize]) -> io::Result<()> {
-    let mut space = lent::text_buffer();
+    let mut space: [u8; lent::TEXT_ROOM] = room::filled(0);
     let n = bytes::gather(line, request::place(values, 1), &mut space);
-    lend_file(rt, part::front_bytes(&space, n), request::place(values, 0))
+    lend_file(rt, part::front(&space, n), request::place(values, 0))
 }
 
 fn write_text(rt: &impl Print, file: &[u32], text: &mut [u8]) -> io::Result<()> {
     let w = clauselines::call::write(file, text);
-    let mut out = lent::line_buffer();
+    let mut out: [u8; lent::LINE_ROOM] = room::filled(0);
     let n = textual::written_text(&mut out, 0, w.status, w.place, w.bytes, text);
     lent::write_line(rt, &out, n)
 }
 
 // Lends the bytes for the text that are asked for.
 fn lend_text(rt: &impl Print, file: &[u32], bytes: usize) -> io::Result<()> {
-    let mut text = lent::filled_text();
-    let b = lent::least(bytes, 131072);
+    let mut text: [u8; lent::TEXT_ROOM] = room::filled(lent::FILLED_BYTE);
+    let b = bytes.min(lent::TEXT_ROOM);
     write_text(rt, file, &mut text[..b])
 }
 
 fn answer_written(rt: &impl Print, line: &[u8], values: &[usize]) -> io::Result<()> {
-    let mut space = lent::file_buffer();
+    let mut space: [u32; lent::FILE_ROOM] = room::filled(0);
     let n = piece::gather(line, request::place(values, 1), &mut space);
     lend_text(rt, part::front(&space, n), request::place(values, 0))
 }
@@ -53,7 +55,7 @@ fn list_clauses(
     work: &mut [u32],
 ) -> io::Result<()> {
     let w = listing::call::listing(file, bound, offered, listing, work);
-    let mut out = lent::line_buffer();
+    let mut out: [u8; lent::LINE_ROOM] = room::filled(0);
     let n = textual::listed_text(&mut out, 0, w.status, w.place, w.bytes, listing, work);
     lent::write_line(rt, &out, n)
 }
@@ -67,17 +69,17 @@ fn lend_listing(
     bytes: usize,
     works: usize,
 ) -> io::Result<()> {
-    let mut listing = lent::filled_text();
-    let mut work = lent::long_buffer();
-    let b = lent::least(bytes, 131072);
-    let w = lent::least(works, 20000);
+    let mut listing: [u8; lent::TEXT_ROOM] = room::filled(lent::FILLED_BYTE);
+    let mut work: [u32; lent::LONG_ROOM] = room::filled(lent::FILLED);
+    let b = bytes.min(lent::TEXT_ROOM);
+    let w = works.min(lent::LONG_ROOM);
     list_clauses(rt, file, bound, offered, &mut listing[..b], &mut work[..w])
 }
 
 fn answer_listing(rt: &impl Print, line: &[u8], values: &[usize]) -> io::Result<()> {
-    let mut space = lent::file_buffer();
+    let mut space: [u32; lent::FILE_ROOM] = room::filled(0);
     let n = piece::gather(line, request::place(values, 4), &mut space);
-    let mut proof = lent::proof_buffer();
+    let mut proof: [u32; lent::OFFERED_ROOM] = room::filled(0);
     let m = piece::gather(line, request::place(values, 3), &mut proof);
     lend_listing(
         rt,
@@ -91,19 +93,34 @@ fn answer_listing(rt: &impl Print, line: &[u8], values: &[usize]) -> io::Result<
 
 // The verbs of text.
 pub fn answer_texts(rt: &impl Print, line: &[u8], values: &mut [usize]) -> io::Result<bool> {
-    if request::asks(line, b"tptp-in", b"nb", &[lent::FILE, lent::TEXT], values) {
+    if request::asks(
+        line,
+        b"tptp-in",
+        &[Field::Number(lent::FILE), Field::Bytes(lent::TEXT)],
+        values,
+    ) {
         answer_text(rt, line, values)?;
         return Ok(true);
     }
-    if request::asks(line, b"tptp-out", b"nw", &[lent::TEXT, lent::FILE], values) {
+    if request::asks(
+        line,
+        b"tptp-out",
+        &[Field::Number(lent::TEXT), Field::Words(lent::FILE)],
+        values,
+    ) {
         answer_written(rt, line, values)?;
         return Ok(true);
     }
     if request::asks(
         line,
         b"listing",
-        b"nnnww",
-        &[lent::ANY, lent::LONG, lent::TEXT, lent::OFFERED, lent::FILE],
+        &[
+            Field::Number(lent::ANY),
+            Field::Number(lent::LONG),
+            Field::Number(lent::TEXT),
+            Field::Words(lent::OFFERED),
+            Field::Words(lent::FILE),
+        ],
         values,
     ) {
         answer_listing(rt, line, values)?;

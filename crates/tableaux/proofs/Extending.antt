@@ -1,8 +1,6 @@
 -- An extension on the work words: what it asks of the meeting, and the tableau after it.
 use mathlib.Core.Path.{◌≡◌, sym, ap, ◌∙◌}
 use mathlib.Core.List.{List}
-use mathlib.Core.Logic.{◌⊎◌, inl, inr}
-use denote.Enum.Declared.{tag_of, declared}
 use Prim.Native.Nat.{ℕ, ◌+◌, ◌*◌, ◌-◌, ◌/◌, ◌%◌, ◌≤◌, ◌<◌}
 use native.Mathlib.Omega.{arith}
 use lib.ListN.{length, get_or}
@@ -16,27 +14,23 @@ use Rattle.unification.specs.Thorough.{Apart}
 use Rattle.unification.proofs.Newest.{good_older}
 use Rattle.tableaux.specs.Ready.{Later, OneMore, leaf_of, Extensible, Extended, opened, hanging_at, hung_under, place_under}
 use Rattle.tableaux.specs.declared.tableau.Place.{Place}
-use Rattle.unification.specs.declared.unify.Meeting.{Meeting}
-use Rattle.unification.specs.declared.unify.Meeting.TheVariants.{Made, Clash, Circle}
-use Rattle.unification.specs.contracts.unify.Meeting.{enum}
+use Rattle.std.specs.Prelude.{Result, Ok, Err}
+use Rattle.unification.specs.declared.unify.Unmet.{Unmet}
+use Rattle.unification.specs.declared.unify.Unmet.TheVariants.{Clash, Circle}
 use Rattle.tableaux.proofs.Literals.{clause_read, clause_some, clause_few, hanging_fewer}
 use Rattle.tableaux.proofs.Kept.{literal_kept, word_kept, stands_kept, bound_carried, later_copies, later_then, grown_later}
 use Rattle.tableaux.proofs.Leftmost.{leaves_few}
 use Rattle.tableaux.proofs.Hung.{reads_stands}
 use Rattle.tableaux.proofs.Opening.{steps_small, leaf_stands, begun_copies, begun_start, begun_copied, begun_carries, begun_good, one_more, begun_leaf, after_carries, hung_under_lem, hung_one_more, under_inside}
 
--- a meeting whose variant is not the first was not made
-pub not_made : (q : Meeting) → (tag_of (declared enum) q ≡ 1) ⊎ (tag_of (declared enum) q ≡ 2) → q ≡ Made → ⊥
-not_made Made (inl e) d = omega (arith, e)
-not_made Made (inr e) d = omega (arith, e)
-not_made Clash e d = let z : ◌≡◌ {A = ℕ} 0 1 = cc in omega arith
-not_made Circle e d = let z : ◌≡◌ {A = ℕ} 0 1 = cc in omega arith
+-- where a meeting was made, and the same is bound
+made_kept : (f m m' : List ℕ) (u : Unified) → bindings_in f m' ≡ bindings_in f m → u ≡ made (bindings_in f m) → u ≡ made (bindings_in f m')
+made_kept f m m' u e o = o ∙ ap made (sym e)
 
--- how a meeting ended, where the same is bound
-outcome_kept : (f m m' : List ℕ) (q : Meeting) (u : Unified) → bindings_in f m' ≡ bindings_in f m → Outcome f m q u → Outcome f m' q u
-outcome_kept f m m' Made u e o = o ∙ ap made (sym e)
-outcome_kept f m m' Clash u e o = o
-outcome_kept f m m' Circle u e o = o
+-- the same of a place
+stopped_as : (f m : List ℕ) (e : Unmet) (u : Unified) → Outcome {T = Unit {0}} f m (Err e) u → Outcome {T = Place} f m (Err e) u
+stopped_as f m Clash u o = o
+stopped_as f m Circle u o = o
 
 module _ {f m : List ℕ} {place : Place} {start offset : ℕ} (x : Extensible f m place start offset) (step : ℕ) where
   abbrev begun : List ℕ
@@ -86,7 +80,7 @@ module _ {f m : List ℕ} {place : Place} {start offset : ℕ} (x : Extensible f
   few : length (hanging_at f start offset) ≤ 7
   few = omega (arith, fewer, clause_few x.openable.clause)
 
-  module _ {m₂ : List ℕ} {q : Meeting} (met : Met f begun m₂ q (unify (bindings_in f begun) (atom (literal_at_reference f begun (leaf_of m place))) (atom (literal_at_reference f begun new)))) where
+  module _ {m₂ : List ℕ} {q : Result (Unit {0}) Unmet} (met : Met f begun m₂ q (unify (bindings_in f begun) (atom (literal_at_reference f begun (leaf_of m place))) (atom (literal_at_reference f begun new)))) where
     met_later : Later begun m₂ place
     met_later =
         let small = steps_small x.openable in
@@ -115,22 +109,22 @@ module _ {f m : List ℕ} {place : Place} {start offset : ℕ} (x : Extensible f
         )
         met.outcome
 
-    pub stopped : (q ≡ Made → ⊥) → Extended f m m₂ place start offset step (record { meeting = q; place = place })
-    stopped no_way = record { copied = met_one_more; outcome = met_outcome; hung = λ e. absurd (no_way e) }
+    pub stopped : {e : Unmet} → q ≡ Err e → Extended f m m₂ place start offset step (Err e)
+    stopped {e} is = record { copied = met_one_more; outcome = stopped_as f m₂ e _ (rw is at met_outcome); hung = λ next o. let z : ◌≡◌ {A = ℕ} 0 1 = cc in absurd (omega arith) }
 
     abbrev last : List ℕ
     last = hung_under f m₂ place start (copies_of m) offset
 
-    pub went_on : Extended f m last place start offset step (record { meeting = q; place = place_under f m₂ place start offset })
-    went_on =
+    pub went_on : q ≡ Ok tt → Extended f m last place start offset step (Ok (place_under f m₂ place start offset))
+    went_on is =
         let carries = after_carries x.openable offset few met_one_more in
         record {
           copied = hung_one_more x.openable offset few met_one_more;
           outcome =
-              outcome_kept f m₂ last q _
+              made_kept f m₂ last _
               (bound_carried met.grown.good carries)
-              (rw (literal_kept f carries.change.copied new (omega (arith, new_stands.1.made, begun_copies x.openable step, met_one_more.copies))) met_outcome);
-          hung = λ e. hung_under_lem x.openable offset few met_one_more;
+              (rw (literal_kept f carries.change.copied new (omega (arith, new_stands.1.made, begun_copies x.openable step, met_one_more.copies))) (rw is at met_outcome));
+          hung = λ next o. let same : next ≡ place_under f m₂ place start offset = cc in rw same (hung_under_lem x.openable offset few met_one_more);
         }
 
   -- the same, with the values as the code has them
@@ -141,11 +135,11 @@ module _ {f m : List ℕ} {place : Place} {start offset : ℕ} (x : Extensible f
     pub extend_meets : Good f m₁ × AlikeAt f m₁ literal (copy * 256 + offset) × Apart f m₁ literal (copy * 256 + offset)
     extend_meets = rw (literal_is, eo.0, eo.1) (begun_good x.openable step, begun-alike, begun_apart)
 
-    module _ {m₂ : List ℕ} {q : Meeting} (met : Met f m₁ m₂ q (unify (bindings_in f m₁) (atom (literal_at_reference f m₁ literal)) (atom (literal_at_reference f m₁ (copy * 256 + offset))))) where
+    module _ {m₂ : List ℕ} {q : Result (Unit {0}) Unmet} (met : Met f m₁ m₂ q (unify (bindings_in f m₁) (atom (literal_at_reference f m₁ literal)) (atom (literal_at_reference f m₁ (copy * 256 + offset))))) where
       met_as : Met f begun m₂ q (unify (bindings_in f begun) (atom (literal_at_reference f begun (leaf_of m place))) (atom (literal_at_reference f begun new)))
       met_as = rw (literal_is, eo.0, eo.1) at met
 
-      pub extend_stopped : (q ≡ Made → ⊥) → Extended f m m₂ place start offset step (record { meeting = q; place = place })
+      pub extend_stopped : {e : Unmet} → q ≡ Err e → Extended f m m₂ place start offset step (Err e)
       extend_stopped = stopped met_as
 
       pub extend_some : {n : ℕ} → n ≡ literals_of (get_or f start 0) → 1 ≤ n
@@ -159,6 +153,6 @@ module _ {f m : List ℕ} {place : Place} {start offset : ℕ} (x : Extensible f
             ((length m₂ ≡ work_words) × (copy < most_copies) × (0 < place.head) × (place.head ≤ place.leaves) × (place.leaves < most_leaves) × (place.leaves + (n - 1) ≤ most_leaves) × (place.steps < most_leaves)) × (n - 1 ≡ length (hanging_at f start offset))
         extend_under = (under_inside x.openable offset few (met_one_more met_as) eo.0 counted, counted)
 
-      pub extend_went_on : {m₃ : List ℕ} {r : Place} → (r ≡ place_under f m₂ place start offset) × (m₃ ≡ hung_under f m₂ place start copy offset)
-          → Extended f m m₃ place start offset step (record { meeting = q; place = r })
-      extend_went_on e = rw (e.0, e.1, eo.0) (went_on met_as)
+      pub extend_went_on : q ≡ Ok tt → {m₃ : List ℕ} {r : Place} → (r ≡ place_under f m₂ place start offset) × (m₃ ≡ hung_under f m₂ place start copy offset)
+          → Extended f m m₃ place start offset step (Ok r)
+      extend_went_on is e = rw (e.0, e.1, eo.0) (went_on met_as is)

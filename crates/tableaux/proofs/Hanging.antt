@@ -14,18 +14,6 @@ use Rattle.unification.specs.Places.{most_leaves, work_words}
 use Rattle.unification.specs.State.{own_words}
 use Rattle.tableaux.specs.Leaves.{hangs, hanging, noted, hung}
 
--- the test of one word
-module _ (w offset entered : ℕ) {k : ℕ} (e : k ≡ kind_of w) where
-  pub hangs_literal : k ≡ 2 → not (eqb offset entered) ≡ hangs entered offset w
-  unfolding hangs
-  hangs_literal t = rw (eq-eqb (kind_of w) 2 (sym e ∙ t))
-
-  pub hangs_other : (k ≡ 2 → ⊥) → false ≡ hangs entered offset w
-  unfolding hangs
-  hangs_other t = rw (ne_eqb (kind_of w) 2 (λ d. t (e ∙ d)))
-
-pub ruleset hangs_laws = (hangs_literal, hangs_other)
-
 pub noted_length : (m : List ℕ) (leaf literal parent next : ℕ) → length (noted m leaf literal parent next) ≡ length m
 unfolding noted
 noted_length m leaf literal parent next = simp length-set

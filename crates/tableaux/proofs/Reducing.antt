@@ -6,14 +6,17 @@ use native.Mathlib.Omega.{arith}
 use lib.ListN.{length, get_or, set, length-set}
 use lib.Seq.{get_or-set_same, get_or-set_other}
 use Rattle.rules.specs.Tableau.{atom}
-use Rattle.rules.specs.Machinery.Unify.{unify}
+use Rattle.rules.specs.Machinery.Unify.{Unified, unify}
 use Rattle.unification.specs.Places.{most_variables, most_leaves, value_places, literal_places, parent_places, next_places, step_places, number_places, count_place, trail_places, work_words, copies_place, start_places}
 use Rattle.unification.specs.State.{copies_of, count_of, step_at, literal_at_reference, bindings_in}
 use Rattle.unification.specs.Good.{LiteralStands, Alike as AlikeAt, Good, Met}
 use Rattle.tableaux.specs.Leaves.{leaves_from}
-use Rattle.tableaux.specs.Ready.{Later, open_leaves, leaf_of, rest_of, Reducible, Reduced}
+use Rattle.tableaux.specs.Ready.{Later, open_leaves, leaf_of, rest_of, closed_at, Reducible, Reduced}
 use Rattle.tableaux.specs.declared.tableau.Place.{Place}
-use Rattle.unification.specs.declared.unify.Meeting.{Meeting}
+use Rattle.std.specs.Prelude.{Result, Ok, Err}
+use Rattle.unification.specs.declared.unify.Unmet.{Unmet}
+use Rattle.unification.specs.declared.unify.Unmet.TheVariants.{Clash, Circle}
+use Rattle.unification.specs.Good.{Outcome}
 use Rattle.unification.proofs.Bound.{Copied}
 use Rattle.tableaux.proofs.Leaves.{leaves_same}
 use Rattle.tableaux.proofs.Kept.{literal_kept, word_kept, stands_kept, Carries, good_carried, bound_carried, later_leaves, later_noted, later_then, grown_later}
@@ -92,7 +95,7 @@ module _ {f m : List ℕ} {place : Place} {ancestor : ℕ} (r : Reducible f m pl
         arity = rw (leaf, other) r.alike.arity;
       }
 
-  module _ {m' : List ℕ} {q : Meeting} (met : Met f begun m' q (unify (bindings_in f begun) (atom (literal_at_reference f begun (leaf_of m place))) (atom (literal_at_reference f begun ancestor)))) where
+  module _ {m' : List ℕ} {q : Result (Unit {0}) Unmet} (met : Met f begun m' q (unify (bindings_in f begun) (atom (literal_at_reference f begun (leaf_of m place))) (atom (literal_at_reference f begun ancestor)))) where
     later : Later m m' place
     later =
         let few = leaves_few r.ready in
@@ -111,18 +114,17 @@ module _ {f m : List ℕ} {place : Place} {ancestor : ℕ} (r : Reducible f m pl
         met.grown.kept.leaves.words (step_places + place.steps) (omega arith) (omega arith)
         ∙ get_or-set_same m (step_places + place.steps) step 0 (omega (arith, r.ready.good.size))
 
-    abbrev next : Place
-    next = record { head = rest_of m place; leaves = place.leaves; steps = place.steps + 1 }
-
-    open_after : open_leaves f m' next ≡ leaves_from f m place.leaves (rest_of m place)
+    open_after : open_leaves f m' (closed_at m place) ≡ leaves_from f m place.leaves (rest_of m place)
     open_after = leaves_same f (later_leaves later r.ready.noted) place.leaves (rest_of m place) (omega arith)
 
-    pub reduced : Reduced f m m' place ancestor step (record { meeting = q; place = next })
-    reduced = record {
+    pub reduced : {r : Result Place Unmet} → ((u : Unified) → Outcome f m' q u → Outcome f m' r u) → ((next : Place) → r ≡ Ok next → next ≡ closed_at m place)
+        → Reduced f m m' place ancestor step r
+    reduced same leads = record {
       stepping = record { good = met.grown.good; later = later; noted = noted_step };
       outcome =
-          rw (← bound_carried r.ready.good carries, ← literal_kept f carries.change.copied (leaf_of m place) leaf_stands.made, ← literal_kept f carries.change.copied ancestor r.stands.made)
-          met.outcome;
+          same _
+          (rw (← bound_carried r.ready.good carries, ← literal_kept f carries.change.copied (leaf_of m place) leaf_stands.made, ← literal_kept f carries.change.copied ancestor r.stands.made)
+          met.outcome);
       ready = record {
         good = met.grown.good;
         noted = later_noted later r.ready.noted;
@@ -133,7 +135,7 @@ module _ {f m : List ℕ} {place : Place} {ancestor : ℕ} (r : Reducible f m pl
       };
       copies = same_copies;
       leaves = open_after;
-      steps = refl;
+      leads = leads;
     }
 
   -- the same, with the values as the code has them
@@ -141,7 +143,16 @@ module _ {f m : List ℕ} {place : Place} {ancestor : ℕ} (r : Reducible f m pl
     pub reduce_meets : Good f m₁ × AlikeAt f m₁ literal ancestor
     reduce_meets = rw (em, el) (reduce_good, reduce_alike)
 
-    pub reduced_as : {rest : ℕ} → rest ≡ rest_of m place → {m' : List ℕ} {q : Meeting}
-        → Met f m₁ m' q (unify (bindings_in f m₁) (atom (literal_at_reference f m₁ literal)) (atom (literal_at_reference f m₁ ancestor)))
-        → Reduced f m m' place ancestor step (record { meeting = q; place = record { head = rest; leaves = place.leaves; steps = place.steps + 1 } })
-    reduced_as er {m'} {q} met = rw er (reduced (rw (em, el) at met))
+    pub reduced_as : {rest : ℕ} → rest ≡ rest_of m place → {m' : List ℕ}
+        → Met f m₁ m' (Ok tt) (unify (bindings_in f m₁) (atom (literal_at_reference f m₁ literal)) (atom (literal_at_reference f m₁ ancestor)))
+        → Reduced f m m' place ancestor step (Ok (record { head = rest; leaves = place.leaves; steps = place.steps + 1 }))
+    reduced_as er {m'} met = rw er (reduced (rw (em, el) at met) (λ u o. o) (λ next e. cc))
+
+    pub reduced_stops : {m' : List ℕ} {e : Unmet}
+        → Met f m₁ m' (Err e) (unify (bindings_in f m₁) (atom (literal_at_reference f m₁ literal)) (atom (literal_at_reference f m₁ ancestor)))
+        → Reduced f m m' place ancestor step (Err e)
+    reduced_stops {m'} {e} met = reduced (rw (em, el) at met) (stopped e) (λ next e. cc)
+      where
+        stopped : (e : Unmet) (u : Unified) → Outcome {T = Unit {0}} f m' (Err e) u → Outcome {T = Place} f m' (Err e) u
+        stopped Clash u o = o
+        stopped Circle u o = o

@@ -1,5 +1,5 @@
 -- Machinery: when the work words and a place hold a tableau, and what the steps on them promise one another. No public contract speaks of it.
-use Rattle.std.specs.Prelude.{cond, List, [], ◌∷◌, ◌++◌, map, ◌≡◌, ℕ, suc, ◌+◌, ◌*◌, ◌-◌, ◌≤◌, ◌<◌, eqb, length, drop, get_or, set}
+use Rattle.std.specs.Prelude.{Result, Ok, cond, List, [], ◌∷◌, ◌++◌, map, ◌≡◌, ℕ, suc, ◌+◌, ◌*◌, ◌-◌, ◌≤◌, ◌<◌, eqb, length, drop, get_or, set}
 use Rattle.std.proofs.Math.Option.{some}
 use Rattle.std.proofs.Math.ListN.{get_elem?}
 use Rattle.words.specs.Fields.{symbol_of, arity_of}
@@ -13,9 +13,7 @@ use Rattle.unification.specs.Good.{word_at, LiteralStands, Good, Outcome}
 use Rattle.index.specs.Places.{noted_place}
 use Rattle.tableaux.specs.Leaves.{literal_of_leaf, leaf_at, leaves_from, questions_among, offsets_at, hanging, hung}
 use Rattle.tableaux.specs.declared.tableau.Place.{Place}
-use Rattle.tableaux.specs.declared.tableau.Taken.{Taken}
-use Rattle.unification.specs.declared.unify.Meeting.{Meeting}
-use Rattle.unification.specs.declared.unify.Meeting.TheVariants.{Made}
+use Rattle.unification.specs.declared.unify.Unmet.{Unmet}
 
 -- each noted leaf stands for a literal, and its links lead down
 pub record Noted (f m : List ℕ) (leaves : ℕ) : Type 0 where
@@ -99,13 +97,17 @@ pub record Stepping (f m m' : List ℕ) (place : Place) (step : ℕ) : Type 0 wh
   pub later : Later m m' place
   pub noted : step_at m' place.steps ≡ step
 
-pub record Reduced (f m m' : List ℕ) (place : Place) (ancestor step : ℕ) (r : Taken) : Type 0 where
+-- the place after it: the leaf is closed
+abbrev pub closed_at : List ℕ → Place → Place
+closed_at m place = record { head = rest_of m place; leaves = place.leaves; steps = place.steps + 1 }
+
+pub record Reduced (f m m' : List ℕ) (place : Place) (ancestor step : ℕ) (r : Result Place Unmet) : Type 0 where
   pub stepping : Stepping f m m' place step
-  pub outcome : Outcome f m' r.meeting (unify (bindings_in f m) (atom (literal_at_reference f m (leaf_of m place))) (atom (literal_at_reference f m ancestor)))
-  pub ready : Ready f m' r.place
+  pub outcome : Outcome f m' r (unify (bindings_in f m) (atom (literal_at_reference f m (leaf_of m place))) (atom (literal_at_reference f m ancestor)))
+  pub ready : Ready f m' (closed_at m place)
   pub copies : copies_of m' ≡ copies_of m
-  pub leaves : open_leaves f m' r.place ≡ leaves_from f m place.leaves (rest_of m place)
-  pub steps : r.place.steps ≡ place.steps + 1
+  pub leaves : open_leaves f m' (closed_at m place) ≡ leaves_from f m place.leaves (rest_of m place)
+  pub leads : (next : Place) → r ≡ Ok next → next ≡ closed_at m place
 
 -- a copy of the clause at a position can hang under the leftmost leaf
 pub record Openable (f m : List ℕ) (place : Place) (start : ℕ) : Type 0 where
@@ -159,12 +161,12 @@ pub record OneMore (f m m' : List ℕ) (place : Place) (start step : ℕ) : Type
   pub copies : copies_of m' ≡ copies_of m + 1
   pub starts : start_at m' (copies_of m) ≡ start
 
-pub record Extended (f m m' : List ℕ) (place : Place) (start offset step : ℕ) (r : Taken) : Type 0 where
+pub record Extended (f m m' : List ℕ) (place : Place) (start offset step : ℕ) (r : Result Place Unmet) : Type 0 where
   pub copied : OneMore f m m' place start step
   pub outcome :
-      Outcome f m' r.meeting
+      Outcome f m' r
       (unify (bindings_in f m) (atom (literal_at_reference f m (leaf_of m place))) (atom (literal_at_reference f m' (copies_of m * 256 + offset))))
-  pub hung : r.meeting ≡ Made → Hung f m m' place r.place start offset
+  pub hung : (next : Place) → r ≡ Ok next → Hung f m m' place next start offset
 
 -- a restart: nothing is bound, and all of the question's literals hang under the leaf
 pub record Restarted (f m m' : List ℕ) (place : Place) (question step : ℕ) (next : Place) : Type 0 where

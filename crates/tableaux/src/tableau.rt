@@ -6,11 +6,11 @@ ghost use Rattle.unification.specs.State.{copies_of, literal_at, parent_at, next
 ghost use Rattle.tableaux.specs.Leaves.{hangs, hanging, noted, hung};
 ghost use Rattle.tableaux.specs.Ready.{Ready, NotesKept, Begun, Reducible, Reduced, Openable, Extensible, Extended, Restarted, opened, hanging_at, head_after, hung_under, place_under};
 
-use unification::unify::Meeting;
+use unification::unify::Unmet;
 use unification::{memory, unify};
 use words::fields;
 
-// The leftmost open leaf and one, 0 where none is open; the leaves noted, and the steps taken.
+// The leftmost open leaf and one, 0 where none is open, as the work words hold heads; the leaves noted, and the steps taken.
 #[derive(Clone, Copy)]
 pub struct Place {
     pub head: u32,
@@ -18,13 +18,7 @@ pub struct Place {
     pub steps: u32,
 }
 
-// How the pair of a step met, and the place after it.
-#[derive(Clone, Copy)]
-pub struct Taken {
-    pub meeting: Meeting,
-    pub place: Place,
-}
-
+#[tactic(auto, unfolding(crate::specs::Leaves::noted))]
 fn note(work: &mut [u32], leaf: u32, literal: u32, parent: u32, next: u32)
     requires { (length work.old ≡ work_words) × (leaf < most_leaves) }
     ensures { work.new ≡ noted work.old leaf literal parent next }
@@ -36,13 +30,11 @@ fn note(work: &mut [u32], leaf: u32, literal: u32, parent: u32, next: u32)
 }
 
 // Whether a word's literal hangs as a leaf: it is not the one entered.
+#[tactic(auto, unfolding(crate::specs::Leaves::hangs))]
 pub fn hangs(word: u32, offset: u32, entered: u32) -> bool
     ensures { result ≡ hangs entered offset word }
 {
-    if fields::kind(word) == 2 {
-        return offset != entered;
-    }
-    false
+    fields::kind(word) == 2 && offset != entered
 }
 
 // The head after a leaf that has so many hung leaves right of it.
@@ -74,6 +66,7 @@ fn hang(
 {
     let mut offset: u32 = 1;
     let mut left = count;
+    // No index loop: it ends when so many literals hang, at an offset not known before.
     while left != 0 {
         let word = file[fields::wide(start) + fields::wide(offset)];
         let here = offset;
@@ -148,21 +141,25 @@ pub fn begin(file: &[u32], work: &mut [u32], question: u32) -> Place
 }
 
 // The leftmost leaf is closed against an ancestor's literal.
-pub fn reduce(file: &[u32], work: &mut [u32], place: Place, ancestor: u32, step: u32) -> Taken
+pub fn reduce(
+    file: &[u32],
+    work: &mut [u32],
+    place: Place,
+    ancestor: u32,
+    step: u32,
+) -> Result<Place, Unmet>
     requires { Reducible file.now work.old place ancestor }
     ensures { Reduced file.now work.old work.new place ancestor step result }
 {
     let literal = literal_of(work, place.head);
     let rest = right_of(work, place.head);
     note_step(work, place.steps, step);
-    Taken {
-        meeting: unify::meet_atoms(file, work, literal, ancestor),
-        place: Place {
-            head: rest,
-            leaves: place.leaves,
-            steps: place.steps + 1,
-        },
-    }
+    unify::meet_atoms(file, work, literal, ancestor)?;
+    Ok(Place {
+        head: rest,
+        leaves: place.leaves,
+        steps: place.steps + 1,
+    })
 }
 
 // One more copy, and the step that makes it.
@@ -210,24 +207,15 @@ pub fn extend(
     start: u32,
     offset: u32,
     step: u32,
-) -> Taken
+) -> Result<Place, Unmet>
     requires { Extensible file.now work.old place start offset }
     ensures { Extended file.now work.old work.new place start offset step result }
 {
     let copy = open_copy(work, start, place.steps, step);
     let literal = literal_of(work, place.head);
-    let met = unify::meet_entered(file, work, literal, copy * 256 + offset);
-    let Meeting::Made = met else {
-        return Taken {
-            meeting: met,
-            place,
-        };
-    };
+    unify::meet_entered(file, work, literal, copy * 256 + offset)?;
     let others = literals_at(file, start) - 1;
-    Taken {
-        meeting: met,
-        place: hang_under(file, work, place, start, copy, offset, others),
-    }
+    Ok(hang_under(file, work, place, start, copy, offset, others))
 }
 
 // A copy of the question hangs under the leftmost leaf, all its literals open.

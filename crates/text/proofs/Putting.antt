@@ -1,7 +1,7 @@
 -- Writing in parts, with premises as the code has them.
 use mathlib.Core.Path.{◌≡◌, refl, sym, ap, ◌∙◌}
 use mathlib.Core.List.{List, [], ◌∷◌, ◌++◌}
-use Prim.Native.Nat.{ℕ, zero, suc, ◌+◌, ◌^◌, ◌≤◌, ◌<◌, min, max}
+use Prim.Native.Nat.{ℕ, zero, suc, ◌+◌, ◌-◌, ◌^◌, ◌≤◌, ◌<◌, min, max}
 use native.Mathlib.Nat.{le_of_suc-le-suc, not-suc-le-zero}
 use native.Mathlib.Omega.{arith, min_cases}
 use lib.ListN.{length, set, length-append}
@@ -27,12 +27,6 @@ put_past [] at text h = refl
 put_past (o ∷ out) zero text h = absurd (not-suc-le-zero h)
 put_past (o ∷ out) (suc at) text h = ap (λ (l : List ℕ). o ∷ l) (put_past out at text (le_of_suc-le-suc h))
 
-put_set : (out : List ℕ) (at b : ℕ) → at < length out → set out at b ≡ put out at (b ∷ [])
-unfolding put
-put_set [] at b h = absurd (not-suc-le-zero h)
-put_set (o ∷ out) zero b h = ap (λ (l : List ℕ). b ∷ l) (sym (put_none out 0))
-put_set (o ∷ out) (suc at) b h = ap (λ (l : List ℕ). o ∷ l) (put_set out at b (le_of_suc-le-suc h))
-
 put_more : (out : List ℕ) (at : ℕ) (a b : List ℕ) → put (put out at a) (at + length a) b ≡ put out at (a ++ b)
 unfolding put
 put_more [] at a b = refl
@@ -42,15 +36,21 @@ put_more (o ∷ out) zero (x ∷ a) b =
 put_more (o ∷ out) (suc at) a b =
     let z : suc at + length a ≡ suc (at + length a) = omega arith in rw z (ap (λ (l : List ℕ). o ∷ l) (put_more out at a b))
 
--- one element, where there is room and where there is none
-module _ (out : List ℕ) (at b : ℕ) where
-  pub one : at < length out → Put out at (b ∷ []) (set out at b) (at + 1)
-  unfolding after
-  one h = record { written = put_set out at b h; ends = omega arith }
+-- one element is stored, where there is room for it
+set_put : (out : List ℕ) (at b : ℕ) → set out at b ≡ put out at (b ∷ [])
+unfolding put
+set_put [] at b = refl
+set_put (o ∷ out) zero b = ap (λ (l : List ℕ). b ∷ l) (sym (put_none out 0))
+set_put (o ∷ out) (suc at) b = ap (λ (l : List ℕ). o ∷ l) (set_put out at b)
 
-  pub full : length out ≤ at → length out < 2 ^ 63 → {next : ℕ} → next ≡ max at (min (at + 1) 0xFFFFFFFFFFFFFFFF) → Put out at (b ∷ []) out next
-  unfolding after
-  full h k e = record { written = sym (put_past out at (b ∷ []) h); ends = omega arith }
+pub stored : (out : List ℕ) (at b : ℕ) → length out < 2 ^ 63 → at < 2 ^ 64 → {left : List ℕ} → left ≡ set out at b
+    → {next : ℕ} → next ≡ min (at + 1) (2 ^ 64 - 1) → Put out at (b ∷ []) left next
+unfolding after
+stored out at b small fits e n = record { written = e ∙ set_put out at b; ends = omega arith }
+
+pub one : (out : List ℕ) (at b : ℕ) → at < length out → Put out at (b ∷ []) (set out at b) (at + 1)
+unfolding after
+one out at b h = record { written = set_put out at b; ends = omega arith }
 
 -- the rest goes on where a part ended
 put_on : (out : List ℕ) (at : ℕ) (a rest : List ℕ) (next : ℕ) → next ≡ after (length out) at (length a)

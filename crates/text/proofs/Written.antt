@@ -1,13 +1,13 @@
 -- Text written byte by byte, one law for each outcome, with premises as the code has them.
-use mathlib.Core.Path.{◌≡◌, refl, sym, ap, ◌∙◌}
+use mathlib.Core.Path.{◌≡◌, refl, ◌∙◌}
 use mathlib.Core.List.{List, [], ◌∷◌}
-use Prim.Native.Nat.{ℕ, zero, suc, ◌+◌, ◌-◌, ◌/◌, ◌%◌, ◌^◌, ◌≤◌, ◌<◌}
-use native.Mathlib.Nat.{pow-zero, pow-suc, pow-succ', one-mul, le-div_iff_mul-le, div-lt_iff_lt-mul, mul-div_cancel, mul-pos, mod-eq_of_lt, mod-lt, div-eq_of_lt}
+use Prim.Native.Nat.{ℕ, zero, suc, ◌+◌, ◌-◌, ◌*◌, ◌/◌, ◌%◌, ◌^◌, ◌≤◌, ◌<◌, max}
+use native.Mathlib.Nat.{zero-add, pow-le-pow_right, pow-zero, pow-suc, pow-succ', one-mul, le-div_iff_mul-le, div-lt_iff_lt-mul, mul-pos, mod-eq_of_lt, mod-lt, div-eq_of_lt}
 use native.Mathlib.Numerals.{add-one}
 use native.Mathlib.Omega.{arith}
 use lib.ListN.{length, take, drop, get_or, drop_of_length-le}
 use lib.Seq.{drop-cons, take_all}
-use borrow.Author.Tests.{lt-ltb, le-ltb, ne_eqb}
+use borrow.Author.Tests.{lt-ltb, ne_eqb}
 use Rattle.text.specs.Put.{Put}
 use Rattle.text.specs.Digits.{glyph_of, digits_of, hex_text, significant, decimal_text, spaced_text, words_text, pairs_text, bytes_text, long_decimal_text}
 use Rattle.text.proofs.Putting.{Left, further, finish, then}
@@ -23,38 +23,26 @@ module _ {first : List ℕ} {from : ℕ} {whole out : List ℕ} {at : ℕ} (text
   pub byte_last : length text ≤ i → Put first from whole out at
   byte_last h = finish (rw (drop_of_length-le text h) at l)
 
--- a digit
-pub low_glyph : (d : ℕ) → d < 10 → 48 + d ≡ glyph_of d
-low_glyph d h = rw (lt-ltb d 10 h)
-
-pub high_glyph : (d : ℕ) → 10 ≤ d → 55 + d ≡ glyph_of d
-high_glyph d h = rw (le-ltb d 10 h)
-
 -- digits, the highest first
-pow_pos : (base k : ℕ) → 2 ≤ base → 0 < base ^ k
+pub pow_pos : (base k : ℕ) → 2 ≤ base → 0 < base ^ k
 pow_pos base zero h = rw (pow-zero base) (omega arith)
 pow_pos base (suc k) h = rw (pow-suc base k) (mul-pos (pow_pos base k h) (omega arith))
-
-next_power : (base k m power : ℕ) → 2 ≤ base → k ≡ suc m → power ≡ base ^ k → power / base ≡ base ^ m
-next_power base k m power h s e = rw (e, s, pow-suc base m) (mul-div_cancel (base ^ m) (omega arith))
 
 next_digit : (base k m n : ℕ) → k ≡ suc m → digits_of base k n ≡ glyph_of (n / base ^ m % base) ∷ digits_of base m n
 unfolding digits_of
 next_digit base k m n s = rw s
 
-module _ {base count power : ℕ} (h : 2 ≤ base) (e : power ≡ base ^ count) (some : 0 < count) where
-  pub power_lower : power / base ≡ base ^ (count - 1)
-  power_lower = next_power base count (count - 1) power h (omega arith) e
+module _ (base count n : ℕ) where
+  pub power_fits : {most : ℕ} → 2 ≤ base → count < most → base ^ (most - 1) < 2 ^ 64 → base ^ count < 2 ^ 64
+  power_fits {most} h k f =
+      let up : base ^ count ≤ base ^ (most - 1) = pow-le-pow_right (omega arith) (omega arith) in omega arith
 
-  pub power_stays : 0 < power / base
-  power_stays = let p = pow_pos base (count - 1) h in let q = power_lower in omega arith
-
-  module _ {first : List ℕ} {from : ℕ} {whole out : List ℕ} {at : ℕ} (n : ℕ) (l : Left first from whole out at (digits_of base count n)) where
-    pub digit_more : {g : ℕ} → g ≡ glyph_of (n / (power / base) % base) → {out' : List ℕ} {at' : ℕ} → Put out at (g ∷ []) out' at'
-        → Left first from whole out' at' (digits_of base (count - 1) n)
-    digit_more eg p =
-        further (glyph_of (n / base ^ (count - 1) % base) ∷ []) (digits_of base (count - 1) n)
-        (rw (next_digit base count (count - 1) n (omega arith)) at l) (rw (eg, power_lower) at p)
+  pub digit_more : 0 < count → {first : List ℕ} {from : ℕ} {whole out : List ℕ} {at : ℕ} → Left first from whole out at (digits_of base count n)
+      → {power : ℕ} → power ≡ base ^ (count - 1) → {g : ℕ} → g ≡ glyph_of (n / power % base) → {out' : List ℕ} {at' : ℕ} → Put out at (g ∷ []) out' at'
+      → Left first from whole out' at' (digits_of base (count - 1) n)
+  digit_more some l ep e p =
+      further (glyph_of (n / base ^ (count - 1) % base) ∷ []) (digits_of base (count - 1) n)
+      (rw (next_digit base count (count - 1) n (omega arith)) at l) (rw (e, ep) at p)
 
 pub digit_below : (x base : ℕ) → 2 ≤ base → base ≤ 16 → x % base < 16
 digit_below x base h k = let m : x % base < base = mod-lt x (omega arith) in omega arith
@@ -87,98 +75,44 @@ at_least n p pos h = (le-div_iff_mul-le pos).1 (rw one-mul h)
 at_most : (n b k : ℕ) → b ≡ suc k → n < 10 ^ suc (suc k) → n / 10 ^ suc k < 10
 at_most n b k e h = (div-lt_iff_lt-mul (pow_pos 10 (suc k) (omega arith))).1 (rw (← pow-succ' 10 (suc k)) h)
 
-pub record Shortening (n count above : ℕ) : Type 0 where
-  pub power : above ≡ 10 ^ count
-  pub some : 1 ≤ count
-  pub within : n < above
-  pub same : significant (digits_of 10 10 n) ≡ significant (digits_of 10 count n)
+-- zeros in front are left out
+trimmed : (k more n : ℕ) → n < 10 ^ suc more → significant (digits_of 10 (k + suc more) n) ≡ significant (digits_of 10 (suc more) n)
+trimmed zero more n h = rw zero-add refl
+trimmed (suc k) more n h =
+    let up : 10 ^ suc more ≤ 10 ^ suc (k + more) = pow-le-pow_right (omega arith) (omega arith) in
+    shorter n (suc k + suc more) (k + suc more) (k + more) (omega arith) (omega arith) (omega arith) ∙ trimmed k more n h
 
-pub shorten_begin : (n : ℕ) → n < 2 ^ 32 → Shortening n 10 10000000000
-shorten_begin n h = record { power = refl; some = omega arith; within = omega arith; same = refl }
+-- the highest digit stays
+highest : (n more : ℕ) → 10 ^ more ≤ max n 1 → n < 10 ^ suc more → significant (digits_of 10 (suc more) n) ≡ digits_of 10 (suc more) n
+unfolding significant digits_of
+highest n zero low high = refl
+highest n (suc m) low high =
+    let ten : 10 ^ suc m ≡ 10 ^ m * 10 = pow-suc 10 m in
+    let some : 0 < 10 ^ m = pow_pos 10 m (omega arith) in
+    let reached : 10 ^ suc m ≤ n = omega arith in
+    longer n (suc (suc m)) m refl (at_least n (10 ^ suc m) (pow_pos 10 (suc m) (omega arith)) reached) (at_most n (suc m) m refl high)
 
-module _ {n count above : ℕ} (s : Shortening n count above) where
-  module _ (more : 1 < count) where
-    down : above / 10 ≡ 10 ^ (count - 1)
-    down = next_power 10 count (count - 1) above (omega arith) (omega arith) s.power
+-- a number of 64 bits: as many digits as its logarithm says, and one more
+module _ (n more : ℕ) (fits : n < 2 ^ 64) (low : 10 ^ more ≤ max n 1) where
+  pub power_of_ten : 10 ^ (more + 1 - 1) < 2 ^ 64
+  power_of_ten = let e : more + 1 - 1 ≡ more = omega arith in rw e (omega arith)
 
-    twice : count ≡ suc (suc (count - 2))
-    twice = omega arith
+  pub significant_digits : max n 1 < 10 * 10 ^ more → more < 20
+      → {out : List ℕ} {at : ℕ} {out' : List ℕ} {at' : ℕ} → Put out at (digits_of 10 (more + 1) n) out' at' → Put out at (long_decimal_text n) out' at'
+  significant_digits high few p =
+      let within : n < 10 ^ suc more = rw (pow-suc 10 more) (omega arith) in
+      let all : 19 - more + suc more ≡ 20 = omega arith in
+      let next : more + 1 ≡ suc more = omega arith in
+      let t : significant (digits_of 10 (19 - more + suc more) n) ≡ digits_of 10 (suc more) n = trimmed (19 - more) more n within ∙ highest n more low within in
+      let u : significant (digits_of 10 20 n) ≡ digits_of 10 (suc more) n = rw all at t in
+      rw u (rw next at p)
 
-    once : count - 1 ≡ suc (count - 2)
-    once = omega arith
-
-    pub shorten_more : n < above / 10 → Shortening n (count - 1) (above / 10)
-    shorten_more h = record {
-      power = down;
-      some = omega arith;
-      within = h;
-      same =
-          let k : n < 10 ^ suc (count - 2) = rw (← once, ← down) h in
-          s.same ∙ shorter n count (count - 1) (count - 2) twice once k;
-    }
-
-    pub long_enough : above / 10 ≤ n → {first out : List ℕ} → out ≡ first → {at : ℕ} {out' : List ℕ} {at' : ℕ} → Put out at (digits_of 10 count n) out' at' → Put first at (decimal_text n) out' at'
-    long_enough h e p =
-        let low : 1 ≤ n / 10 ^ suc (count - 2) = at_least n (10 ^ suc (count - 2)) (pow_pos 10 (suc (count - 2)) (omega arith)) (rw (← once, ← down) h) in
-        let high : n / 10 ^ suc (count - 2) < 10 = at_most n (count - 1) (count - 2) once (rw (s.power, twice) at s.within) in
-        rw (← e, s.same, longer n count (count - 2) twice low high) p
-
-  pub single : count ≤ 1 → {first out : List ℕ} → out ≡ first → {at : ℕ} {out' : List ℕ} {at' : ℕ} → Put out at (digits_of 10 1 n) out' at' → Put first at (decimal_text n) out' at'
-  unfolding significant digits_of
-  single h e p = let z : count ≡ 1 = omega (arith, s.some) in rw (← e, s.same, z) p
-
--- a number of 64 bits in decimal
-pub record Trimming (n count below : ℕ) : Type 0 where
-  pub power : below ≡ 10 ^ (count - 1)
-  pub some : 1 ≤ count
-  pub within : n < 10 ^ count
-  pub same : significant (digits_of 10 20 n) ≡ significant (digits_of 10 count n)
-
-pub trim_begin : (n : ℕ) → n < 2 ^ 64 → Trimming n 20 10000000000000000000
-trim_begin n h = record { power = refl; some = omega arith; within = let e : 10 ^ 20 ≡ 100000000000000000000 = refl in omega arith; same = refl }
-
-pub below_some : {below : ℕ} (k : ℕ) → below ≡ 10 ^ k → 0 < below
-below_some k e = omega (arith, pow_pos 10 k (omega arith))
-
-pub leading_is : (n count below : ℕ) → 1 < count → below ≡ 10 ^ (count - 1) → {g : ℕ} → g ≡ glyph_of (n / below % 10) → {out mid : List ℕ} {at next : ℕ}
-    → Put out at (g ∷ []) mid next → {out' : List ℕ} {at' : ℕ} → Put mid next (digits_of 10 (count - 1) n) out' at' → Put out at (digits_of 10 count n) out' at'
-leading_is n count below h e g p q =
-    let whole : digits_of 10 count n ≡ glyph_of (n / 10 ^ (count - 1) % 10) ∷ digits_of 10 (count - 1) n = next_digit 10 count (count - 1) n (omega arith) in
-    rw whole (then (rw (g, e) at p) q)
-
-module _ {n count below : ℕ} (s : Trimming n count below) where
-  module _ (more : 1 < count) where
-    two-more : count ≡ suc (suc (count - 2))
-    two-more = omega arith
-
-    one_more : count - 1 ≡ suc (count - 2)
-    one_more = omega arith
-
-    as-power : below ≡ 10 ^ suc (count - 2)
-    as-power = s.power ∙ ap (λ (k : ℕ). 10 ^ k) one_more
-
-    pub trim_more : n < below → Trimming n (count - 1) (below / 10)
-    trim_more h =
-        let k : n < 10 ^ suc (count - 2) = rw (← as-power) h in
-        let less : count - 1 - 1 ≡ count - 2 = omega arith in
-        record {
-          power = next_power 10 (suc (count - 2)) (count - 2) below (omega arith) refl as-power ∙ ap (λ (m : ℕ). 10 ^ m) (sym less);
-          some = omega arith;
-          within = rw one_more k;
-          same = s.same ∙ shorter n count (count - 1) (count - 2) two-more one_more k;
-        }
-
-    pub trimmed : below ≤ n → {first out : List ℕ} → out ≡ first → {at : ℕ} {out' : List ℕ} {at' : ℕ} → Put out at (digits_of 10 count n) out' at'
-        → Put first at (long_decimal_text n) out' at'
-    trimmed h e p =
-        let low : 1 ≤ n / 10 ^ suc (count - 2) = at_least n (10 ^ suc (count - 2)) (pow_pos 10 (suc (count - 2)) (omega arith)) (rw (← as-power) h) in
-        let high : n / 10 ^ suc (count - 2) < 10 = at_most n (count - 1) (count - 2) one_more (rw two-more at s.within) in
-        rw (← e, s.same, longer n count (count - 2) two-more low high) p
-
-  pub one_digit : count ≤ 1 → {first out : List ℕ} → out ≡ first → {at : ℕ} {out' : List ℕ} {at' : ℕ} → Put out at (digits_of 10 1 n) out' at'
-      → Put first at (long_decimal_text n) out' at'
-  unfolding significant digits_of
-  one_digit h e p = let z : count ≡ 1 = omega (arith, s.some) in rw (← e, s.same, z) p
+-- a word has no more than ten
+pub short_number : (n : ℕ) → n < 2 ^ 32 → {out : List ℕ} {at : ℕ} {out' : List ℕ} {at' : ℕ} → Put out at (long_decimal_text n) out' at' → Put out at (decimal_text n) out' at'
+short_number n h p =
+    let e : 10 ^ 10 ≡ 10000000000 = refl in
+    let ten : n < 10 ^ suc 9 = omega arith in
+    rw (trimmed 10 9 n ten) at p
 
 -- words with a space before each
 module _ {first : List ℕ} {from : ℕ} {whole out : List ℕ} {at : ℕ} (ws : List ℕ) (i : ℕ) (l : Left first from whole out at (spaced_text (drop i ws))) where
@@ -192,11 +126,6 @@ module _ {first : List ℕ} {from : ℕ} {whole out : List ℕ} {at : ℕ} (ws :
   spaced_last h = finish (rw (drop_of_length-le ws h) at l)
 
 -- words with spaces between them
-pub list_empty : {out : List ℕ} {at : ℕ} (ws : List ℕ) → length ws ≡ 0 → {out' : List ℕ} {at' : ℕ} → Put out at (45 ∷ []) out' at' → Put out at (words_text ws) out' at'
-unfolding words_text
-list_empty [] e p = p
-list_empty (w ∷ ws) e p = absurd (omega arith)
-
 pub list_some : {out : List ℕ} {at : ℕ} (ws : List ℕ) → (length ws ≡ 0 → ⊥) → {mid : List ℕ} {next : ℕ} → Put out at (hex_text (get_or ws 0 0)) mid next
     → {out' : List ℕ} {at' : ℕ} → Put mid next (spaced_text (take (length ws - 1) (drop 1 ws))) out' at' → Put out at (words_text ws) out' at'
 unfolding words_text

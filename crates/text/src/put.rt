@@ -1,59 +1,46 @@
 // Writing into a lent buffer from a position on. What has no room is not written, but counted: each function answers the position
 // after its text, past the buffer's end where the text does not fit.
-ghost use Rattle.std.specs.Prelude.{◌≡◌, [], ◌∷◌, ◌++◌, ◌+◌, ◌-◌, ◌^◌, ◌≤◌, ◌<◌, min, max};
+ghost use Rattle.std.specs.Prelude.{◌≡◌, [], ◌∷◌, ◌++◌, ◌+◌, ◌-◌, ◌^◌, ◌≤◌, ◌<◌, min, slice_set};
 ghost use Rattle.text.specs.Put.{Put};
 ghost use Rattle.text.specs.Digits.{glyph_of, digits_of, hex_text, decimal_text, spaced_text, words_text, pairs_text, bytes_text, long_decimal_text};
 
-use words::fields::wide;
-
-// The position after a further element that has no room.
-fn past(at: usize) -> usize
-    ensures { result ≡ max at (min (at + 1) 0xFFFFFFFFFFFFFFFF) }
+// Stores an element where there is room for it; the position after it, which stops at the largest.
+fn store<T: Copy>(out: &mut [T], at: usize, element: T) -> usize
+    ensures stored { out.new ≡ slice_set out.old at element }
+    ensures next { result ≡ min (at + 1) (2 ^ 64 - 1) }
 {
-    if at == usize::MAX {
-        return at;
+    if at < out.len() {
+        out[at] = element;
     }
-    at + 1
+    at.saturating_add(1)
 }
 
+// A name for each type of element: `Put` speaks of lists of numbers.
 pub fn byte(out: &mut [u8], at: usize, b: u8) -> usize
     ensures { Put out.old at (b ∷ []) out.new result }
 {
-    if at < out.len() {
-        out[at] = b;
-        return at + 1;
-    }
-    past(at)
+    store(out, at, b)
 }
 
 pub fn word(out: &mut [u32], at: usize, w: u32) -> usize
     ensures { Put out.old at (w ∷ []) out.new result }
 {
-    if at < out.len() {
-        out[at] = w;
-        return at + 1;
-    }
-    past(at)
+    store(out, at, w)
 }
 
 pub fn place(out: &mut [usize], at: usize, n: usize) -> usize
     ensures { Put out.old at (n ∷ []) out.new result }
 {
-    if at < out.len() {
-        out[at] = n;
-        return at + 1;
-    }
-    past(at)
+    store(out, at, n)
 }
 
+#[tactic(auto, using(crate::proofs::Putting::begin, crate::proofs::Written::byte_last))]
 pub fn bytes(out: &mut [u8], from: usize, text: &[u8]) -> usize
     ensures { Put out.old from text.now out.new result }
 {
     let mut at = from;
-    let mut i = 0;
-    while i < text.len() {
-        at = byte(out, at, text[i]);
-        i += 1;
+    for b in text {
+        at = byte(out, at, *b);
     }
     at
 }
@@ -63,23 +50,21 @@ fn glyph(d: u64) -> u8
     ensures { result ≡ glyph_of d }
 {
     if d < 10 {
-        return 48 + d as u8;
+        b'0' + d as u8
+    } else {
+        b'A' - 10 + d as u8
     }
-    55 + d as u8
 }
 
-// The last digits of a number, so many. `above` is the power of the base with as many zeros.
-fn digits(out: &mut [u8], from: usize, n: u64, base: u64, count: usize, above: u64) -> usize
-    requires { (2 ≤ base) × (base ≤ 16) × (above ≡ base ^ count) }
+// The last digits of a number, so many.
+#[tactic(auto, using(crate::proofs::Putting::begin, crate::proofs::Written::power_fits, crate::proofs::Written::pow_pos, crate::proofs::Written::digit_below, crate::proofs::Written::digit_last))]
+fn digits(out: &mut [u8], from: usize, n: u64, base: u64, count: u32) -> usize
+    requires { (2 ≤ base) × (base ≤ 16) × (base ^ (count - 1) < 2 ^ 64) }
     ensures { Put out.old from (digits_of base count n) out.new result }
 {
     let mut at = from;
-    let mut left = count;
-    let mut power = above;
-    while left > 0 {
-        left -= 1;
-        power /= base;
-        at = byte(out, at, glyph(n / power % base));
+    for left in (0..count).rev() {
+        at = byte(out, at, glyph(n / base.pow(left) % base));
     }
     at
 }
@@ -88,93 +73,64 @@ fn digits(out: &mut [u8], from: usize, n: u64, base: u64, count: usize, above: u
 pub fn hex(out: &mut [u8], at: usize, w: u32) -> usize
     ensures { Put out.old at (hex_text w) out.new result }
 {
-    digits(out, at, w as u64, 16, 8, 0x1_0000_0000)
+    digits(out, at, u64::from(w), 16, 8)
 }
 
 // A word in decimal digits, with no zeros in front.
 pub fn decimal(out: &mut [u8], at: usize, w: u32) -> usize
     ensures { Put out.old at (decimal_text w) out.new result }
 {
-    let n = w as u64;
-    let mut count = 10;
-    let mut above: u64 = 10_000_000_000;
-    while count > 1 {
-        let below = above / 10;
-        if below <= n {
-            return digits(out, at, n, 10, count, above);
-        }
-        above = below;
-        count -= 1;
-    }
-    digits(out, at, n, 10, 1, 10)
-}
-
-// The highest of so many decimal digits, and those after it. `below` is the power of ten with a zero less than there are digits.
-fn leading(out: &mut [u8], at: usize, n: u64, count: usize, below: u64) -> usize
-    requires { (1 < count) × (below ≡ 10 ^ (count - 1)) }
-    ensures { Put out.old at (digits_of 10 count n) out.new result }
-{
-    let next = byte(out, at, glyph(n / below % 10));
-    digits(out, next, n, 10, count - 1, below)
+    long_decimal(out, at, u64::from(w))
 }
 
 // A number of 64 bits in decimal digits, with no zeros in front.
+#[tactic(auto, using(crate::proofs::Written::power_of_ten))]
 pub fn long_decimal(out: &mut [u8], at: usize, n: u64) -> usize
     ensures { Put out.old at (long_decimal_text n) out.new result }
 {
-    let mut count = 20;
-    let mut below: u64 = 10_000_000_000_000_000_000;
-    while count > 1 {
-        if below <= n {
-            return leading(out, at, n, count, below);
-        }
-        below /= 10;
-        count -= 1;
-    }
-    digits(out, at, n, 10, 1, 10)
+    digits(out, at, n, 10, n.max(1).ilog10() + 1)
 }
 
 // Words, each with a space before it.
+#[tactic(auto, using(crate::proofs::Putting::begin, crate::proofs::Written::spaced_last))]
 pub fn spaced(out: &mut [u8], from: usize, list: &[u32]) -> usize
     ensures { Put out.old from (spaced_text list.now) out.new result }
 {
     let mut at = from;
-    let mut i = 0;
-    while i < list.len() {
+    for w in list {
         let next = byte(out, at, b' ');
-        at = hex(out, next, list[i]);
-        i += 1;
+        at = hex(out, next, *w);
     }
     at
 }
 
 // Words with spaces between them; `-` stands for none.
+#[tactic(auto, unfolding(crate::specs::Digits::words_text))]
 pub fn list(out: &mut [u8], at: usize, list: &[u32]) -> usize
     ensures { Put out.old at (words_text list.now) out.new result }
 {
-    if list.len() == 0 {
+    let [first, rest @ ..] = list else {
         return byte(out, at, b'-');
-    }
-    let next = hex(out, at, list[0]);
-    spaced(out, next, &list[1..])
+    };
+    let next = hex(out, at, *first);
+    spaced(out, next, rest)
 }
 
 // A byte in two hexadecimal digits.
 fn pair(out: &mut [u8], at: usize, b: u8) -> usize
     ensures { Put out.old at (digits_of 16 2 b) out.new result }
 {
-    digits(out, at, b as u64, 16, 2, 256)
+    digits(out, at, u64::from(b), 16, 2)
 }
 
 // Bytes run together.
+#[tactic(auto, using(crate::proofs::Putting::begin, crate::proofs::Written::pairs_last))]
 fn pairs(out: &mut [u8], from: usize, list: &[u8]) -> usize
     ensures { Put out.old from (pairs_text list.now) out.new result }
 {
     let mut at = from;
-    let mut i = 0;
-    while i < list.len() {
-        at = pair(out, at, list[i]);
-        i += 1;
+    for b in list {
+        at = pair(out, at, *b);
     }
     at
 }
@@ -183,7 +139,7 @@ fn pairs(out: &mut [u8], from: usize, list: &[u8]) -> usize
 pub fn byte_list(out: &mut [u8], at: usize, list: &[u8]) -> usize
     ensures { Put out.old at (bytes_text list.now) out.new result }
 {
-    if list.len() == 0 {
+    if list.is_empty() {
         return byte(out, at, b'-');
     }
     pairs(out, at, list)

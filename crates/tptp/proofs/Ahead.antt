@@ -2,17 +2,26 @@
 use mathlib.Core.Bool.{Bool, true, false, cond}
 use mathlib.Core.List.{List, [], ◌∷◌, ◌++◌}
 use mathlib.Core.Path.{◌≡◌, refl, sym, ap, ◌∙◌}
-use Prim.Native.Nat.{ℕ, zero, suc, ◌+◌, ◌%◌, ◌≤◌, ◌<◌}
+use Prim.Native.Nat.{ℕ, zero, suc, ◌+◌, ◌%◌, max, ◌≤◌, ◌<◌}
 use native.Mathlib.Numerals.{add-one}
 use native.Mathlib.Omega.{arith}
 use borrow.Author.Tests.{le-leb, lt-leb, leb-false}
 use lib.Dec.{leb}
-use lib.ListN.{length, drop, get_or, drop_of_length-le}
+use lib.ListN.{length, drop, get_or, length-drop, drop_of_length-le}
 use lib.Seq.{drop-cons}
 use Rattle.table.specs.Limits.{Each}
 use Rattle.tptp.specs.Sketch.{Item}
 use Rattle.tptp.specs.Memory.{items_of}
 use Rattle.tptp.specs.Body.{ahead}
+
+pub ahead_within : (sort : ℕ) (ms : List ℕ) → ahead sort ms ≤ length ms
+unfolding ahead
+ahead_within sort [] = omega arith
+ahead_within sort (m ∷ ms) = go (leb sort (m % 8)) (ahead_within sort ms)
+  where
+    go : (t : Bool) → ahead sort ms ≤ length ms → cond t zero (suc (ahead sort ms)) ≤ suc (length ms)
+    go true h = omega arith
+    go false h = omega arith
 
 pub record Seeking (marks : List ℕ) (from sort at : ℕ) : Type 0 where
   pub left : from + ahead sort (drop from marks) ≡ at + ahead sort (drop at marks)
@@ -25,6 +34,9 @@ module _ {marks : List ℕ} {from sort : ℕ} where
     pub seek_over : length marks ≤ at → at ≡ from + ahead sort (drop from marks)
     unfolding ahead
     seek_over h = sym (inv.left ∙ rw (drop_of_length-le marks h) (omega arith))
+
+    pub seek_end : length marks ≤ at → max from (length marks) ≡ from + ahead sort (drop from marks)
+    seek_end h = omega (arith, seek_over h, ahead_within sort (drop from marks), length-drop from marks)
 
     module _ (h : at < length marks) where
       pub seek_found : sort ≤ get_or marks at 0 % 8 → at ≡ from + ahead sort (drop from marks)
@@ -66,12 +78,3 @@ ahead_all sort (i ∷ is) more h = go (leb sort i.sort) refl h (ahead_all sort i
         → (length is ≤ item_ahead sort (is ++ more) → Each (Before sort) is) → Before sort i × Each (Before sort) is
     go true e g ih = absurd (omega arith)
     go false e g ih = (leb-false sort i.sort e, ih (omega arith))
-
-pub ahead_within : (sort : ℕ) (ms : List ℕ) → ahead sort ms ≤ length ms
-unfolding ahead
-ahead_within sort [] = omega arith
-ahead_within sort (m ∷ ms) = go (leb sort (m % 8)) (ahead_within sort ms)
-  where
-    go : (t : Bool) → ahead sort ms ≤ length ms → cond t zero (suc (ahead sort ms)) ≤ suc (length ms)
-    go true h = omega arith
-    go false h = omega arith

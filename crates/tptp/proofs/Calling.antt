@@ -1,4 +1,6 @@
 -- The public call, with premises as the code has them.
+use Rattle.std.specs.Prelude.{Ok, Err}
+use Rattle.clausetext.specs.declared.judge.Counts.{Counts}
 use mathlib.Core.Bool.{Bool, true, false}
 use mathlib.Core.List.{List}
 use mathlib.Core.Path.{◌≡◌, refl, sym, ap, ◌∙◌}
@@ -11,11 +13,9 @@ use lib.Dec.{leb}
 use mir.Syntax.{w32}
 use mir.Val.{Fits}
 use Rattle.table.specs.Encode.{clauses_words, file_words}
-use Rattle.clausetext.specs.declared.judge.Verdict.{Verdict}
-use Rattle.clausetext.specs.declared.judge.Verdict.TheVariants.{Wrong, Fine}
 use Rattle.clausetext.specs.Syntax.{Clause}
 use Rattle.clausetext.specs.Judging.{judged}
-use Rattle.clausetext.specs.Texts.{Says, Permitted, questions, Verdicts, long, wrong, fine}
+use Rattle.clausetext.specs.Texts.{Verdict, Says, Permitted, questions, Verdicts, long, wrong, fine}
 use Rattle.clausetext.proofs.Judgement.{judged_verdict}
 use Rattle.clausetext.proofs.OneReading.{one_reading}
 use Rattle.tptp.specs.Said.{predicates, functions, clauses_said, table_said}
@@ -115,35 +115,35 @@ gathered_places g = omega (arith, g.few, g.places_long)
 pub ruleset asked_laws = (empty_memory, asked_limited, asked_permitted, gatherable, gathered_marks, gathered_places)
 
 -- the verdict
-same_place : {a b : ℕ} → Wrong a ≡ Wrong b → a ≡ b
+same_place : {a b : ℕ} → ◌≡◌ {A = Verdict} (Err a) (Err b) → a ≡ b
 same_place q = cc
 
-wrong_place : {text : List ℕ} {v : Verdict} {place : ℕ} → Verdicts text v → v ≡ Wrong place → place ≤ 65536
+wrong_place : {text : List ℕ} {v : Verdict} {place : ℕ} → Verdicts text v → v ≡ Err place → place ≤ 65536
 wrong_place (long h) e = omega (arith, same_place e)
 wrong_place (wrong h w) e = omega (arith, same_place e, w.within)
 wrong_place (fine h y) e = let z : ◌≡◌ {A = ℕ} 0 1 = cc in absurd (omega arith)
 
-fine_asked : {text : List ℕ} {v : Verdict} {n q : ℕ} → Verdicts text v → v ≡ Fine n q → (cs : List Clause) × (length text ≤ 65536) × Says text cs × (n ≡ length cs) × (q ≡ questions cs)
+fine_asked : {text : List ℕ} {v : Verdict} {c : Counts} → Verdicts text v → v ≡ Ok c → (cs : List Clause) × (length text ≤ 65536) × Says text cs × (c.clauses ≡ length cs) × (c.questions ≡ questions cs)
 fine_asked (long h) e = let z : ◌≡◌ {A = ℕ} 0 1 = cc in absurd (omega arith)
 fine_asked (wrong h w) e = let z : ◌≡◌ {A = ℕ} 0 1 = cc in absurd (omega arith)
-fine_asked {n = n} {q = q} (fine {cs = cs} h y) e = (cs, h, y, cc, cc)
+fine_asked (fine {cs = cs} h y) e = (cs, h, y, cc, cc)
 
 module _ (text : List ℕ) {v : Verdict} (is : v ≡ judged text) where
   verdict : Verdicts text v
   verdict = rw is (judged_verdict text)
 
-  pub wrong_fits : {place : ℕ} → v ≡ Wrong place → Fits w32 place
+  pub wrong_fits : {place : ℕ} → v ≡ Err place → Fits w32 place
   wrong_fits e = record { fits = omega (arith, wrong_place verdict e) }
 
-  pub wrong_read : {place : ℕ} → v ≡ Wrong place → {file : List ℕ} {s : TextRead} → s ≡ refused 17 place → Reads text file s file
+  pub wrong_read : {place : ℕ} → v ≡ Err place → {file : List ℕ} {s : TextRead} → s ≡ refused 17 place → Reads text file s file
   wrong_read e q = rw q (Reads.wrong (rw e at verdict))
 
-  module _ {n k : ℕ} (e : v ≡ Fine n k) where
-    pub not_asked : (k ≡ 1 → ⊥) → {file : List ℕ} {s : TextRead} → s ≡ refused 18 0 → Reads text file s file
+  module _ {c : Counts} (e : v ≡ Ok c) where
+    pub not_asked : (c.questions ≡ 1 → ⊥) → {file : List ℕ} {s : TextRead} → s ≡ refused 18 0 → Reads text file s file
     not_asked d q =
         let f = fine_asked verdict e in rw q (Reads.fine f.1 f.2 (unasked (λ z. d (f.4 ∙ z))))
 
-    pub asked : k ≡ 1 → Asked text n
+    pub asked : c.questions ≡ 1 → Asked text c.clauses
     asked z = let f = fine_asked verdict e in record { limited = f.1; said = f.0; says = f.2; one = sym f.4 ∙ z; count = f.3 }
 
 pub ruleset read_laws = (wrong_fits, wrong_read, not_asked, asked)

@@ -1,4 +1,5 @@
 -- What is promised of reading a text.
+use Rattle.std.specs.Prelude.{Err}
 use mathlib.Core.Bool.{false}
 use mathlib.Core.List.{List}
 use mathlib.Core.Logic.{◌↔◌}
@@ -7,9 +8,8 @@ use Prim.Native.Nat.{ℕ, ◌+◌, ◌≤◌}
 use native.Mathlib.Omega.{arith}
 use lib.ListN.{length, drop, length-append}
 use lib.Seq.{take-append_seam, drop-append_seam}
-use Rattle.clausetext.specs.declared.judge.Verdict.TheVariants.{Wrong, Fine}
 use Rattle.clausetext.specs.Syntax.{Clause}
-use Rattle.clausetext.specs.Texts.{Says, Verdicts}
+use Rattle.clausetext.specs.Texts.{Verdict, counts, Says, Verdicts}
 use Rattle.clausetext.proofs.Judgement.{only_verdict}
 use Rattle.clausetext.proofs.OneReading.{one_reading}
 use Rattle.table.specs.declared.Judgement.{Judgement}
@@ -44,14 +44,14 @@ answered_once (read a b c) (over d e) = absurd (e b)
 answered_once (read a b c) (positive d e f) = absurd (f c)
 answered_once (read a b c) (read d e f) = same
 
-wrong_fine : {text : List ℕ} {place : ℕ} {cs : List Clause} → Verdicts text (Wrong place) → length text ≤ 65536 → Says text cs → ⊥
+wrong_fine : {text : List ℕ} {place : ℕ} {cs : List Clause} → Verdicts text (Err place) → length text ≤ 65536 → Says text cs → ⊥
 wrong_fine w h y =
-    let e : Wrong _ ≡ Fine _ _ = sym (only_verdict w) ∙ only_verdict (Verdicts.fine h y) in
+    let e : Err _ ≡ counts _ _ = sym (only_verdict w) ∙ only_verdict (Verdicts.fine h y) in
     let z : ◌≡◌ {A = ℕ} 0 1 = cc in omega arith
 
 one : {text file : List ℕ} {r s : TextRead} {f g : List ℕ} → Reads text file r f → Reads text file s g → Same r s f g
 one (wrong {place = p} a) (wrong {place = q} b) =
-    let e : Wrong p ≡ Wrong q = sym (only_verdict a) ∙ only_verdict b in
+    let e : ◌≡◌ {A = Verdict} (Err p) (Err q) = sym (only_verdict a) ∙ only_verdict b in
     let z : p ≡ q = cc in record { numbers = rw z; words = refl }
 one (wrong a) (fine h y b) = absurd (wrong_fine a h y)
 one (fine h y a) (wrong b) = absurd (wrong_fine b h y)
@@ -68,7 +68,7 @@ answered_status (over a b) e = omega arith
 answered_status (positive a b c) e = omega arith
 answered_status (read a b c) e = omega arith
 
-told_wrong : {text file : List ℕ} {r : TextRead} {left : List ℕ} → Reads text file r left → r.status ≡ 17 ↔ Verdicts text (Wrong r.place)
+told_wrong : {text file : List ℕ} {r : TextRead} {left : List ℕ} → Reads text file r left → r.status ≡ 17 ↔ Verdicts text (Err r.place)
 told_wrong (wrong a) = (λ e. a, λ v. refl)
 told_wrong (fine h y a) = (λ e. absurd (answered_status a e), λ v. absurd (wrong_fine v h y))
 

@@ -19,9 +19,10 @@ module _ {words : List ℕ} {from : ℕ} where
   begin_span = record { left = refl }
 
   module _ {end : ℕ} (inv : Spanning words from end) where
-    pub span_over : length words ≤ end → end ≡ from + span (drop from words)
+    pub span_over : length words ≤ end → end ≤ length words → length words ≡ from + span (drop from words)
     unfolding span
-    span_over h = sym (inv.left ∙ rw (drop_of_length-le words h) (omega arith))
+    span_over h g =
+        let e : end ≡ length words = omega arith in sym e ∙ sym (inv.left ∙ rw (drop_of_length-le words h) (omega arith))
 
     module _ (h : end < length words) {k : ℕ} (q : k ≡ kind_of (get_or words end 0)) where
       pub span_ends : k ≡ 3 → end ≡ from + span (drop from words)

@@ -1,38 +1,29 @@
 -- The items of a permitted text gathered to the text's end, with premises as the code has them.
-use mathlib.Core.Bool.{Bool, true, false, cond}
+use Rattle.std.specs.Prelude.{Some, None}
+use mathlib.Core.Bool.{false}
 use mathlib.Core.List.{List, [], ◌∷◌}
 use mathlib.Core.Path.{◌≡◌, refl, ap, ◌∙◌}
-use Prim.Native.Nat.{ℕ, suc, ◌-◌, ◌≤◌, ◌<◌}
+use Prim.Native.Nat.{ℕ, ◌-◌, ◌≤◌, ◌<◌}
 use native.Mathlib.Omega.{arith}
 use lib.ListN.{length, take, drop}
 use mir.Syntax.{w32}
 use mir.Val.{Fits}
 use Rattle.clausetext.specs.declared.kind.Mark.{Mark}
 use Rattle.clausetext.specs.declared.token.Lexeme.{Lexeme}
-use Rattle.clausetext.specs.declared.token.Lexeme.TheVariants.{Word, Capital, Sign, Over}
+use Rattle.clausetext.specs.declared.token.Lexeme.TheVariants.{Word, Capital, Sign}
 use Rattle.clausetext.specs.Syntax.{Clause}
 use Rattle.clausetext.specs.Tokens.{Token, word, capital, mark, Spelt}
 use Rattle.clausetext.specs.Texts.{Says, Permitted}
-use Rattle.clausetext.specs.Lexemes.{word_length, lexeme_at}
+use Rattle.clausetext.specs.Lexemes.{lexeme_at}
 use Rattle.clausetext.proofs.Walking.{WordFound, SignFound, Met, over, lettered, titled, single, met}
 use Rattle.names.specs.Numbers.{Name}
-use Rattle.names.specs.Noting.{name_byte, name_from, name_at}
+use Rattle.names.proofs.Same.{run_taken}
+use Rattle.names.specs.Noting.{name_at}
 use Rattle.tptp.specs.declared.sketch.Progress.{Progress}
 use Rattle.tptp.specs.Sketch.{clauses_items, Gathering, on_token, gather}
 use Rattle.tptp.specs.Memory.{items_of, inner_of, sketch_of, Small, Ready, Further, word_met, capital_met, mark_met, Signed, Deepening, Empty, Gathered}
 use Rattle.tptp.proofs.Gathered.{clauses_gather}
 use Rattle.tptp.proofs.Adding.{items_count}
-
--- a name is the longest run of its bytes
-run_taken : (text : List ℕ) → name_from text ≡ take (word_length text) text
-unfolding name_from word_length
-run_taken [] = refl
-run_taken (c ∷ cs) = go (name_byte c) (run_taken cs)
-  where
-    go : (on : Bool) → name_from cs ≡ take (word_length cs) cs
-        → cond on (c ∷ name_from cs) [] ≡ take (cond on (suc (word_length cs)) 0) (c ∷ cs)
-    go true ih = ap (λ (l : List ℕ). c ∷ l) ih
-    go false ih = refl
 
 pub name_found : {text : List ℕ} {at : ℕ} {w : Name} {ts : List Token} {from stop : ℕ} → WordFound text at w ts from stop → name_at text from ≡ w
 name_found {text} {from = from} f = run_taken (drop from text) ∙ rw f.whole f.bytes
@@ -82,32 +73,26 @@ pub record SignHead (text : List ℕ) (at : ℕ) (left : List Token) (m : Mark) 
   pub first : left ≡ mark m ∷ others
   pub found : SignFound text at others next
 
-pub word_head : {text : List ℕ} {at : ℕ} {left : List Token} {l : Lexeme} {from stop : ℕ} → Met text at left l → l ≡ Word from stop → Head text at left from stop word
-word_head over e = let z : ◌≡◌ {A = ℕ} 0 1 = cc in absurd (omega arith)
+pub word_head : {text : List ℕ} {at : ℕ} {left : List Token} {l : Lexeme} {from stop : ℕ} → Met text at left (Some l) → l ≡ Word from stop → Head text at left from stop word
 word_head {from = from} {stop = stop} (lettered {w} {ts} {start = a} {stop = b} f) e =
     let x : a ≡ from = cc in let y : b ≡ stop = cc in record { name = w; others = ts; first = refl; found = rw (x, y) at f }
 word_head (titled f) e = let z : ◌≡◌ {A = ℕ} 0 1 = cc in absurd (omega arith)
 word_head (single f) e = let z : ◌≡◌ {A = ℕ} 0 1 = cc in absurd (omega arith)
 
-pub capital_head : {text : List ℕ} {at : ℕ} {left : List Token} {l : Lexeme} {from stop : ℕ} → Met text at left l → l ≡ Capital from stop → Head text at left from stop capital
-capital_head over e = let z : ◌≡◌ {A = ℕ} 0 1 = cc in absurd (omega arith)
+pub capital_head : {text : List ℕ} {at : ℕ} {left : List Token} {l : Lexeme} {from stop : ℕ} → Met text at left (Some l) → l ≡ Capital from stop → Head text at left from stop capital
 capital_head (lettered f) e = let z : ◌≡◌ {A = ℕ} 0 1 = cc in absurd (omega arith)
 capital_head {from = from} {stop = stop} (titled {x = w} {ts} {start = a} {stop = b} f) e =
     let x : a ≡ from = cc in let y : b ≡ stop = cc in record { name = w; others = ts; first = refl; found = rw (x, y) at f }
 capital_head (single f) e = let z : ◌≡◌ {A = ℕ} 0 1 = cc in absurd (omega arith)
 
-pub sign_head : {text : List ℕ} {at : ℕ} {left : List Token} {l : Lexeme} {m : Mark} {next : ℕ} → Met text at left l → l ≡ Sign m next → SignHead text at left m next
-sign_head over e = let z : ◌≡◌ {A = ℕ} 0 1 = cc in absurd (omega arith)
+pub sign_head : {text : List ℕ} {at : ℕ} {left : List Token} {l : Lexeme} {m : Mark} {next : ℕ} → Met text at left (Some l) → l ≡ Sign m next → SignHead text at left m next
 sign_head (lettered f) e = let z : ◌≡◌ {A = ℕ} 0 1 = cc in absurd (omega arith)
 sign_head (titled f) e = let z : ◌≡◌ {A = ℕ} 0 1 = cc in absurd (omega arith)
 sign_head {m = m} {next = next} (single {m = k} {ts} {next = b} f) e =
     let x : k ≡ m = cc in let y : b ≡ next = cc in record { others = ts; first = rw x refl; found = rw y at f }
 
-pub nothing_left : {text : List ℕ} {at : ℕ} {left : List Token} {l : Lexeme} → Met text at left l → l ≡ Over → left ≡ []
-nothing_left over e = refl
-nothing_left (lettered f) e = let z : ◌≡◌ {A = ℕ} 0 1 = cc in absurd (omega arith)
-nothing_left (titled f) e = let z : ◌≡◌ {A = ℕ} 0 1 = cc in absurd (omega arith)
-nothing_left (single f) e = let z : ◌≡◌ {A = ℕ} 0 1 = cc in absurd (omega arith)
+pub nothing_left : {text : List ℕ} {at : ℕ} {left : List Token} → Met text at left None → left ≡ []
+nothing_left over = refl
 
 -- a word in the gathering
 module _ {text marks places inner : List ℕ} {p : Progress} {at from stop : ℕ} {token : Name → Token} (short : length text ≤ 65536)
@@ -157,83 +142,86 @@ capital_law : (g : Gathering) (name : Name) → on_token g (capital name) ≡ ca
 unfolding on_token
 capital_law g name = refl
 
-module _ {text marks places inner : List ℕ} {p : Progress} {at : ℕ} (short : length text ≤ 65536) (inv : Going text marks places inner p at)
-    {l : Lexeme} (is : l ≡ lexeme_at text at) where
-  meets : Met text at inv.left l
-  meets = rw is (met inv.spelt)
-
-  pub all_gathered : l ≡ Over → Gathered text marks places p.count
+module _ {text marks places inner : List ℕ} {p : Progress} {at : ℕ} (short : length text ≤ 65536) (inv : Going text marks places inner p at) where
+  pub all_gathered : None ≡ lexeme_at text at → Gathered text marks places p.count
   unfolding gather
-  all_gathered e = record {
-    said = inv.said;
-    says = inv.says;
-    items = ap (λ (g : Gathering). g.items) (rw (nothing_left meets e) at inv.goes);
-    marks_long = inv.marks_long;
-    places_long = inv.places_long;
-    few = omega (arith, inv.few, inv.within);
-  }
+  all_gathered e =
+      let m : Met text at inv.left None = rw e (met inv.spelt) in
+      let none : inv.left ≡ [] = nothing_left m in
+      record {
+        said = inv.said;
+        says = inv.says;
+        items = ap (λ (g : Gathering). g.items) (rw none at inv.goes);
+        marks_long = inv.marks_long;
+        places_long = inv.places_long;
+        few = omega (arith, inv.few, inv.within);
+      }
 
-  module _ {from stop : ℕ} (e : l ≡ Word from stop) where
-    pub word_fits : Fits w32 from
-    word_fits = head-fits short inv (word_head meets e)
+  module _ {l : Lexeme} (is : Some l ≡ lexeme_at text at) where
+    meets : Met text at inv.left (Some l)
+    meets = rw is (met inv.spelt)
 
-    pub word_ready : Ready marks places inner p
-    word_ready = head-ready short inv (word_head meets e)
+    module _ {from stop : ℕ} (e : l ≡ Word from stop) where
+      pub word_fits : Fits w32 from
+      word_fits = head-fits short inv (word_head meets e)
 
-    pub word_falls : length text - stop < length text - at
-    word_falls = head-falls short inv (word_head meets e)
+      pub word_ready : Ready marks places inner p
+      word_ready = head-ready short inv (word_head meets e)
 
-    pub word_on : {marks' places' inner' : List ℕ} {r : Progress} → Further text (word_met (name_at text from)) marks places inner p marks' places' inner' r
-        → Going text marks' places' inner' r stop
-    word_on g = head-on short inv (word_head meets e) word_met word_law g
+      pub word_falls : length text - stop < length text - at
+      word_falls = head-falls short inv (word_head meets e)
 
-  module _ {from stop : ℕ} (e : l ≡ Capital from stop) where
-    pub capital_fits : Fits w32 from
-    capital_fits = head-fits short inv (capital_head meets e)
+      pub word_on : {marks' places' inner' : List ℕ} {r : Progress} → Further text (word_met (name_at text from)) marks places inner p marks' places' inner' r
+          → Going text marks' places' inner' r stop
+      word_on g = head-on short inv (word_head meets e) word_met word_law g
 
-    pub capital_ready : Ready marks places inner p
-    capital_ready = head-ready short inv (capital_head meets e)
+    module _ {from stop : ℕ} (e : l ≡ Capital from stop) where
+      pub capital_fits : Fits w32 from
+      capital_fits = head-fits short inv (capital_head meets e)
 
-    pub capital_falls : length text - stop < length text - at
-    capital_falls = head-falls short inv (capital_head meets e)
+      pub capital_ready : Ready marks places inner p
+      capital_ready = head-ready short inv (capital_head meets e)
 
-    pub capital_on : {marks' places' inner' : List ℕ} {r : Progress}
-        → ((text : List ℕ) → Further text (capital_met (name_at text from)) marks places inner p marks' places' inner' r)
-        → Going text marks' places' inner' r stop
-    capital_on g = head-on short inv (capital_head meets e) capital_met capital_law (g text)
+      pub capital_falls : length text - stop < length text - at
+      capital_falls = head-falls short inv (capital_head meets e)
 
-  module _ {m : Mark} {next : ℕ} (e : l ≡ Sign m next) where
-    pub sign_ready : Deepening inner p
-    sign_ready = let f = (sign_head meets e).found in record {
-      long = inv.inner_long;
-      few = omega (arith, inv.few, f.after, f.within);
-      deep = omega (arith, inv.deep, f.after, f.within);
-    }
+      pub capital_on : {marks' places' inner' : List ℕ} {r : Progress}
+          → ((text : List ℕ) → Further text (capital_met (name_at text from)) marks places inner p marks' places' inner' r)
+          → Going text marks' places' inner' r stop
+      capital_on g = head-on short inv (capital_head meets e) capital_met capital_law (g text)
 
-    pub sign_falls : length text - next < length text - at
-    sign_falls = let f = (sign_head meets e).found in omega (arith, f.after, f.within)
+    module _ {m : Mark} {next : ℕ} (e : l ≡ Sign m next) where
+      pub sign_ready : Deepening inner p
+      sign_ready = let f = (sign_head meets e).found in record {
+        long = inv.inner_long;
+        few = omega (arith, inv.few, f.after, f.within);
+        deep = omega (arith, inv.deep, f.after, f.within);
+      }
 
-    pub sign_on : {inner' : List ℕ} {r : Progress} → Signed (mark_met m) inner p inner' r → Going text marks places inner' r next
-    unfolding gather on_token
-    sign_on {inner'} {r} g =
-        let h = sign_head meets e in
-        let f = h.found in
-        let n : length (items_of text (take p.count marks) (take p.count places)) ≡ p.count =
-        items_count text marks places p.count inv.marks_long inv.places_long (omega (arith, inv.few, f.after, f.within)) in
-        record {
-          said = inv.said;
-          says = inv.says;
-          left = h.others;
-          spelt = f.left;
-          goes = rw g.count (rw (g.same (items_of text (take p.count marks) (take p.count places)) n) (rw h.first at inv.goes));
-          marks_long = inv.marks_long;
-          places_long = inv.places_long;
-          inner_long = g.long;
-          small = rw g.count inv.small;
-          within = f.within;
-          few = omega (arith, g.count, inv.few, f.after);
-          deep = omega (arith, g.deep, inv.deep, f.after);
-        }
+      pub sign_falls : length text - next < length text - at
+      sign_falls = let f = (sign_head meets e).found in omega (arith, f.after, f.within)
+
+      pub sign_on : {inner' : List ℕ} {r : Progress} → Signed (mark_met m) inner p inner' r → Going text marks places inner' r next
+      unfolding gather on_token
+      sign_on {inner'} {r} g =
+          let h = sign_head meets e in
+          let f = h.found in
+          let n : length (items_of text (take p.count marks) (take p.count places)) ≡ p.count =
+          items_count text marks places p.count inv.marks_long inv.places_long (omega (arith, inv.few, f.after, f.within)) in
+          record {
+            said = inv.said;
+            says = inv.says;
+            left = h.others;
+            spelt = f.left;
+            goes = rw g.count (rw (g.same (items_of text (take p.count marks) (take p.count places)) n) (rw h.first at inv.goes));
+            marks_long = inv.marks_long;
+            places_long = inv.places_long;
+            inner_long = g.long;
+            small = rw g.count inv.small;
+            within = f.within;
+            few = omega (arith, g.count, inv.few, f.after);
+            deep = omega (arith, g.deep, inv.deep, f.after);
+          }
 
 pub ruleset walk_laws =
     (begin_going, all_gathered, word_fits, word_ready, word_falls, word_on, capital_fits, capital_ready, capital_falls, capital_on, sign_ready, sign_falls, sign_on)

@@ -1,6 +1,5 @@
 -- What is promised of reading a text (document 02, order 1), beside the contract of `read`, which is Reads. Each is proved in proofs/Promises.
-use Rattle.std.specs.Prelude.{List, ◌↔◌, ◌≡◌, ℕ, ◌≤◌, length, take, drop}
-use Rattle.clausetext.specs.declared.judge.Verdict.TheVariants.{Wrong}
+use Rattle.std.specs.Prelude.{Err, List, ◌↔◌, ◌≡◌, ℕ, ◌≤◌, length, take, drop}
 use Rattle.clausetext.specs.Syntax.{Clause}
 use Rattle.clausetext.specs.Texts.{Says, questions, Verdicts}
 use Rattle.table.specs.File.{judge, table_in}
@@ -19,7 +18,7 @@ OneOutcome =
 
 -- 17 exactly where the text is too long or wrong, with that place.
 unfoldable pub WrongExactly : Type 0
-WrongExactly = (text file : List ℕ) (r : TextRead) (left : List ℕ) → Reads text file r left → r.status ≡ 17 ↔ Verdicts text (Wrong r.place)
+WrongExactly = (text file : List ℕ) (r : TextRead) (left : List ℕ) → Reads text file r left → r.status ≡ 17 ↔ Verdicts text (Err r.place)
 
 -- Of a permitted text: 18, then 19, then 9, then 0, each exactly where the order says.
 pub record Exactly (cs : List Clause) (room : ℕ) (r : TextRead) : Type 0 where

@@ -1,6 +1,5 @@
 -- What comes back from a text (document 02, order 1), and what is left in the file buffer.
-use Rattle.std.specs.Prelude.{true, List, ◌++◌, ◌≡◌, ℕ, ◌≤◌, length, drop}
-use Rattle.clausetext.specs.declared.judge.Verdict.TheVariants.{Wrong}
+use Rattle.std.specs.Prelude.{Err, true, List, ◌++◌, ◌≡◌, ℕ, ◌≤◌, length, drop}
 use Rattle.clausetext.specs.Syntax.{Clause}
 use Rattle.clausetext.specs.Texts.{Says, questions, Verdicts}
 use Rattle.table.specs.Syntax.{Table}
@@ -34,5 +33,5 @@ pub data Answered (cs : List Clause) (file : List ℕ) : TextRead → List ℕ �
 
 -- 17 a text over 65,536 bytes, or wrong; else as its clauses are answered
 pub data Reads (text file : List ℕ) : TextRead → List ℕ → Type 0 where
-  wrong : {place : ℕ} → Verdicts text (Wrong place) → Reads text file (refused 17 place) file
+  wrong : {place : ℕ} → Verdicts text (Err place) → Reads text file (refused 17 place) file
   fine : {cs : List Clause} {r : TextRead} {file' : List ℕ} → length text ≤ 65536 → Says text cs → Answered cs file r file' → Reads text file r file'

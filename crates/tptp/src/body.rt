@@ -9,16 +9,15 @@ use words::fields;
 
 // Where the clause that a place is in ends.
 fn clause_end(words: &[u32], from: usize) -> usize
+    requires { from ≤ length words.now }
     ensures { result ≡ from + span (drop from words.now) }
 {
-    let mut end = from;
-    while end < words.len() {
+    for end in from..words.len() {
         if fields::kind(words[end]) == 3 {
             return end;
         }
-        end += 1;
     }
-    end
+    words.len()
 }
 
 // Numbers the variables of the words from a place to another.

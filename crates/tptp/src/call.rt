@@ -5,7 +5,7 @@ ghost use Rattle.tptp.specs.Reads.{Reads};
 use crate::TextRead;
 use crate::last::{finish, refused};
 use crate::sketch::gather;
-use clausetext::judge::{Verdict, judge_text};
+use clausetext::judge::judge_text;
 
 // Reads a text with one question from its items.
 fn read_items(
@@ -45,17 +45,17 @@ fn read_asked(text: &[u8], clauses: usize, file: &mut [u32]) -> TextRead
 }
 
 // Reads clause text into a question file, which stands at the front of the buffer; a refusal leaves the buffer unchanged.
+#[tactic(auto, using(crate::proofs::Calling::read_laws))]
 pub fn read(text: &[u8], file: &mut [u32]) -> TextRead
     ensures { Reads text.now file.old result file.new }
 {
-    let verdict = judge_text(text);
-    match verdict {
-        Verdict::Wrong(place) => refused(17, place as u32),
-        Verdict::Fine(clauses, questions) => {
-            if questions != 1 {
+    match judge_text(text) {
+        Err(place) => refused(17, place as u32),
+        Ok(counts) => {
+            if counts.questions != 1 {
                 return refused(18, 0);
             }
-            read_asked(text, clauses, file)
+            read_asked(text, counts.clauses, file)
         }
     }
 }

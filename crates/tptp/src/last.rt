@@ -13,14 +13,12 @@ use table::build::{append, seal};
 pub fn seek(marks: &[u32], from: usize, sort: u32) -> usize
     ensures { result ≡ from + ahead sort (drop from marks.now) }
 {
-    let mut at = from;
-    while at < marks.len() {
+    for at in from..marks.len() {
         if sort <= marks[at] % 8 {
             return at;
         }
-        at += 1;
     }
-    at
+    from.max(marks.len())
 }
 
 // Writes a file: the words with a part moved to the end, and the trailer.

@@ -12,7 +12,7 @@ use clausetext::token::Lexeme;
 use words::fields::wide;
 
 // How far a clause has been read: how many items and how many lists of parts there are, the stage of the clause, and whether `~` came last.
-#[derive(Drop)]
+#[derive(Clone, Copy)]
 pub struct Progress {
     pub count: usize,
     pub depth: usize,
@@ -21,6 +21,7 @@ pub struct Progress {
 }
 
 // The innermost item has one part more.
+
 fn add_part(marks: &mut [u32], inner: &[u32], count: usize, depth: usize)
     requires { (count ≤ length marks.old) × (count ≤ 65535) × (depth ≤ length inner.now) × Small marks.old count }
     ensures { PartAdded marks.old (inner_of inner.now depth) count marks.new }
@@ -29,10 +30,9 @@ fn add_part(marks: &mut [u32], inner: &[u32], count: usize, depth: usize)
         return;
     }
     let top = wide(inner[depth - 1]);
-    if count <= top {
-        return;
+    if top < count {
+        marks[top] += 8;
     }
-    marks[top] = marks[top] + 8;
 }
 
 // An item becomes a part of the innermost.
@@ -66,10 +66,8 @@ fn pass(p: Progress) -> Progress
     ensures { result ≡ record { count = p.count; depth = p.depth; stage = p.stage + 1; negative = p.negative } }
 {
     Progress {
-        count: p.count,
-        depth: p.depth,
         stage: p.stage + 1,
-        negative: p.negative,
+        ..p
     }
 }
 
@@ -164,91 +162,67 @@ fn on_capital(
     pass(p)
 }
 
-fn before(count: usize) -> usize
-    ensures { result ≡ count - 1 }
-{
-    if count == 0 {
-        return 0;
-    }
-    count - 1
-}
-
 // `(` in a formula: after a name its arguments are read; at the formula's beginning it is passed over.
+
 fn enter(inner: &mut [u32], p: Progress) -> Progress
     requires { (6 ≤ p.stage) × Deepening inner.old p }
     ensures { Signed (mark_met Mark.Open) inner.old p inner.new result }
 {
-    let count = p.count;
-    let depth = p.depth;
-    let stage = p.stage;
-    if stage == 6 {
-        return Progress {
-            count,
-            depth,
-            stage: 7,
-            negative: p.negative,
-        };
+    if p.stage == 6 {
+        return Progress { stage: 7, ..p };
     }
-    inner[depth] = before(count) as u32;
+    inner[p.depth] = p.count.saturating_sub(1) as u32;
     Progress {
-        count,
-        depth: depth + 1,
+        depth: p.depth + 1,
         stage: 7,
-        negative: p.negative,
+        ..p
     }
 }
 
 // `)` in a formula: after the last argument the list ends; any other is passed over.
+
 fn leave(p: Progress) -> Progress
     requires { 6 ≤ p.stage }
     ensures { (inner : List ℕ) → length inner ≡ 65536 → Signed (mark_met Mark.Close) inner p inner result }
 {
-    let depth = p.depth;
-    if depth <= 1 {
-        return Progress {
-            count: p.count,
-            depth,
-            stage: 7,
-            negative: p.negative,
-        };
+    if p.depth <= 1 {
+        return Progress { stage: 7, ..p };
     }
     Progress {
-        count: p.count,
-        depth: depth - 1,
+        depth: p.depth - 1,
         stage: 7,
-        negative: p.negative,
+        ..p
     }
 }
 
 // A sign.
+
 fn on_mark(inner: &mut [u32], p: Progress, mark: Mark) -> Progress
     requires { Deepening inner.old p }
     ensures { Signed (mark_met mark) inner.old p inner.new result }
 {
-    let stage = p.stage;
-    if stage < 6 {
+    if p.stage < 6 {
         return pass(p);
     }
     match mark {
         Mark::Open => enter(inner, p),
         Mark::Close => leave(p),
-        Mark::Comma => p,
-        Mark::Bar => p,
+        Mark::Comma | Mark::Bar => p,
         Mark::Tilde => Progress {
-            count: p.count,
-            depth: p.depth,
             stage: 7,
             negative: true,
+            ..p
         },
         Mark::Dot => Progress {
-            count: p.count,
             depth: 0,
             stage: 0,
             negative: false,
+            ..p
         },
     }
 }
 
+#[tactic(auto, using(crate::proofs::Walk::walk_laws))]
 // Gathers the items of a permitted text, and tells how many there are.
 pub fn gather(text: &[u8], marks: &mut [u32], places: &mut [u32], inner: &mut [u32]) -> usize
     requires { (length text.now ≤ 65536) × Permitted text.now × Empty marks.old places.old inner.old }
@@ -261,25 +235,21 @@ pub fn gather(text: &[u8], marks: &mut [u32], places: &mut [u32], inner: &mut [u
         negative: false,
     };
     let mut at = 0;
-    loop {
-        let lexeme = token::next(text, at);
+    while let Some(lexeme) = token::next(text, at) {
         match lexeme {
-            Lexeme::Word(start, stop) => {
+            Lexeme::Word { start, stop } => {
                 p = on_word(text, marks, places, inner, p, start as u32);
                 at = stop;
-                continue;
             }
-            Lexeme::Capital(start, stop) => {
+            Lexeme::Capital { start, stop } => {
                 p = on_capital(marks, places, inner, p, start as u32);
                 at = stop;
-                continue;
             }
-            Lexeme::Sign(mark, next) => {
+            Lexeme::Sign { mark, stop } => {
                 p = on_mark(inner, p, mark);
-                at = next;
-                continue;
+                at = stop;
             }
-            Lexeme::Over => return p.count,
         }
     }
+    p.count
 }

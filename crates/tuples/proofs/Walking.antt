@@ -32,9 +32,9 @@ module _ {own : List ℕ} where
   span_begin = record { same = omega arith; few = omega arith }
 
   module _ {terms at : ℕ} (inv : Spanning own terms at) where
-    pub span_end : length own ≤ at → at ≡ span_of own 1
+    pub span_end : length own ≡ at → length own ≡ span_of own 1
     unfolding span_of
-    span_end h = sym (inv.same ∙ rw (drop_of_length-le own h) (omega arith))
+    span_end h = let e : length own ≤ at = omega arith in sym (inv.same ∙ rw (drop_of_length-le own e) (omega arith))
 
     module _ (h : at < length own) where
       pub span_stop : terms ≡ 0 → at ≡ span_of own 1
@@ -71,7 +71,7 @@ module _ (q : ℕ) {kind : ℕ} (e : kind ≡ kind_of q) where
   unfolding is_next
   next_symbol n count = rw (ne_eqb (kind_of q) 0 (λ z. n (e ∙ z)))
 
-  pub next_variable : (kind ≡ 0) → (count : ℕ) {m r : ℕ} → m ≡ number_of q → r ≡ m → eqb r count ≡ is_next q count
+  pub next_variable : kind ≡ 0 → (count : ℕ) {m r : ℕ} → m ≡ number_of q → r ≡ m → eqb r count ≡ is_next q count
   unfolding is_next
   next_variable z count g w = rw (eq-eqb (kind_of q) 0 (sym e ∙ z), w, g)
 

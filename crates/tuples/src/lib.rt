@@ -12,7 +12,7 @@ use words::fields;
 use words::fields::wide;
 
 // How far a disjunct's words go, and how far the text.
-#[derive(Drop)]
+#[derive(Clone, Copy, Debug, PartialEq, Eq)]
 pub struct Told {
     pub own: usize,
     pub byte: usize,
@@ -24,15 +24,13 @@ fn term_size(own: &[u32]) -> usize
     ensures { result ≡ span_of own.now 1 }
 {
     let mut terms = 1;
-    let mut at = 0;
-    while at < own.len() {
+    for (at, w) in own.iter().enumerate() {
         if terms == 0 {
             return at;
         }
-        terms = terms - 1 + wide(fields::arity(own[at]));
-        at += 1;
+        terms = terms - 1 + wide(fields::arity(*w));
     }
-    at
+    own.len()
 }
 
 // How many words stand where the question has a word.
@@ -50,20 +48,14 @@ fn width(q: u32, own: &[u32]) -> usize
 fn first_use(q: u32, count: usize) -> bool
     ensures { result ≡ is_next q count }
 {
-    if fields::kind(q) != 0 {
-        return false;
-    }
-    wide(fields::number(q)) == count
+    fields::kind(q) == 0 && wide(fields::number(q)) == count
 }
 
 fn onward(at: usize, size: usize, end: usize) -> usize
     requires { at ≤ end }
     ensures { result ≡ min (at + size) end }
 {
-    if end - at <= size {
-        return end;
-    }
-    at + size
+    at.saturating_add(size).min(end)
 }
 
 fn comma(before: usize, out: &mut [u8], at: usize) -> usize
@@ -100,20 +92,15 @@ fn disjunct(
     let mut count = 0;
     let mut at = from;
     let mut byte = start;
-    let mut i = 0;
-    while i < question.len() {
-        let q = question[i];
+    for q in question {
         let left = part::rest(own, at);
-        let size = width(q, left);
-        if first_use(q, count) {
-            byte = term(text, index, part::front(left, size), count, out, byte);
-            count += 1;
-            at = onward(at, size, own.len());
-            i += 1;
+        let size = width(*q, left);
+        at = onward(at, size, own.len());
+        if !first_use(*q, count) {
             continue;
         }
-        at = onward(at, size, own.len());
-        i += 1;
+        byte = term(text, index, part::front(left, size), count, out, byte);
+        count += 1;
     }
     Told { own: at, byte }
 }
@@ -142,13 +129,11 @@ fn each(
 {
     let mut at = 0;
     let mut byte = start;
-    let mut done = 0;
-    while done < disjuncts {
+    for done in 0..disjuncts {
         let opened = bracket(done, out, byte);
         let told = disjunct(text, index, question, own, at, out, opened);
         byte = put::byte(out, told.byte, b']');
         at = told.own;
-        done += 1;
     }
     byte
 }

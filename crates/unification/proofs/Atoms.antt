@@ -1,4 +1,5 @@
 -- The atoms of two literals made equal: laws with premises as the code has them.
+use Rattle.std.specs.Prelude.{Result}
 use borrow.Author.Tests.{ltb-true, ltb-false}
 use lib.Dec.{ltb}
 use lib.ListN.{length, drop_of_length-le}
@@ -20,7 +21,7 @@ use Rattle.rules.proofs.Unify.Solution.{follow_app}
 use Rattle.unification.specs.Places.{work_words, most_copies}
 use Rattle.unification.specs.State.{start_at, copies_of, own_words, words_at, Owing, terms_of, literal_at_reference, bindings_in}
 use Rattle.unification.specs.Good.{word_at, Inside, Ahead, LiteralStands, Alike, Good, Met}
-use Rattle.unification.specs.declared.unify.Meeting.{Meeting}
+use Rattle.unification.specs.declared.unify.Unmet.{Unmet}
 use Rattle.unification.proofs.TermLists.{arity_under}
 use Rattle.unification.proofs.Words.{some_literal, literal_begins, exact}
 use Rattle.unification.proofs.References.{further, variables_at, tail_of, own_inside, words_here, next_points, next_copy, next_first}
@@ -88,7 +89,7 @@ module _ {f m : List ℕ} {r s : ℕ} (h : Good f m) (p : Alike f m r s) where
     pub atoms_right : Ahead f m (s + 1) a
     atoms_right = rw right-count (literal_ahead p.right)
 
-    pub atoms_met : {m' : List ℕ} {o : Meeting} → Met f m m' o (unifies (bindings_in f m) (first a (terms_of f m (r + 1))) (first a (terms_of f m (s + 1))))
+    pub atoms_met : {m' : List ℕ} {o : Result (Unit {0}) Unmet} → Met f m m' o (unifies (bindings_in f m) (first a (terms_of f m (r + 1))) (first a (terms_of f m (s + 1))))
         → Met f m m' o (unify (bindings_in f m) (atom (literal_at_reference f m r)) (atom (literal_at_reference f m s)))
     atoms_met b =
         met_as

@@ -93,15 +93,3 @@ module _ {f m : List ℕ} {r at v : ℕ} (h : state.Good f m) (g : AtVariable f 
     pub follow_falls : rank_of (bindings_in f m) (term_of f m (bound_at m v - 1)) < rank_of (bindings_in f m) (term_of f m at)
     unfolding rank_of
     follow_falls = rw g.term (value_falls (bindings_in f m) h.sound (variable_of v) _ value)
-
--- the variable that a word names
-module _ (r w v : ℕ) {k : ℕ} (ek : k ≡ kind_of w) where
-  pub names_none : (k ≡ 0 → ⊥) → false ≡ names_variable (kind_of w) r w v
-  names_none n = go (kind_of w) (λ e. n (ek ∙ e))
-    where
-      go : (k : ℕ) → (k ≡ 0 → ⊥) → false ≡ names_variable k r w v
-      go zero n = absurd (n refl)
-      go (suc k) n = refl
-
-  pub names_one : k ≡ 0 → {x : ℕ} → x ≡ variable_at r w → eqb x v ≡ names_variable (kind_of w) r w v
-  names_one z e = rw (sym ek ∙ z, e)

@@ -1,4 +1,5 @@
 -- Two terms made equal: the outcomes, one law for each, with premises as the code has them.
+use Rattle.std.specs.Prelude.{Result, Ok, Err}
 use borrow.Author.Tests.{eqb-true, eqb-false}
 use lib.Dec.{eqb}
 use mathlib.Core.Bool.{Bool, true, false}
@@ -19,8 +20,8 @@ use Rattle.rules.proofs.Unify.Solution.{follow_followed, follow_solution, follow
 use Rattle.unification.specs.State.{term_of, terms_of, variable_of, bindings_in}
 use Rattle.unification.specs.Good.{word_at, variable_at, names_variable, Good, FollowedTo, Binds, Met, Outcome}
 use Rattle.unification.specs.Thorough.{Quiet, Other, arguments_met, Applied, Meets}
-use Rattle.unification.specs.declared.unify.Meeting.{Meeting}
-use Rattle.unification.specs.declared.unify.Meeting.TheVariants.{Made, Clash}
+use Rattle.unification.specs.declared.unify.Unmet.{Unmet}
+use Rattle.unification.specs.declared.unify.Unmet.TheVariants.{Clash}
 use Rattle.unification.proofs.TermLists.{peak_height}
 use Rattle.unification.proofs.References.{variable_term, variable_copy, function_term, function_arity, function_shape, function_next, points_fewer}
 use Rattle.unification.proofs.Walk.{few_variables, inside, small}
@@ -29,24 +30,24 @@ use Rattle.unification.proofs.Push.{grown_none}
 use Rattle.unification.proofs.Heft.{heft, heft_of}
 use Rattle.unification.proofs.Thorough.{noting_none}
 
-pub met_as : {f m m' : List ℕ} {q : Meeting} {u u' : Unified} → u ≡ u' → Met f m m' q u' → Met f m m' q u
+pub met_as : {f m m' : List ℕ} {q : Result (Unit {0}) Unmet} {u u' : Unified} → u ≡ u' → Met f m m' q u' → Met f m m' q u
 met_as {f} {m} {m'} {q} e h = subst (λ (x : Unified). Met f m m' q x) (sym e) h
 
-pub meets_as : {f m m' n n' : List ℕ} {q : Meeting} {u u' : Unified} → u ≡ u' → Meets f m m' n n' q u' → Meets f m m' n n' q u
+pub meets_as : {f m m' n n' : List ℕ} {q : Result (Unit {0}) Unmet} {u u' : Unified} → u ≡ u' → Meets f m m' n n' q u' → Meets f m m' n n' q u
 meets_as {f} {m} {m'} {n} {n'} {q} e h = subst (λ (x : Unified). Meets f m m' n n' q x) (sym e) h
 
 -- nothing more is bound or noted
-pub meets_still : {f m n : List ℕ} {q : Meeting} {u : Unified} → Good f m → Quiet f m n → Outcome f m q u → Meets f m m n n q u
+pub meets_still : {f m n : List ℕ} {q : Result (Unit {0}) Unmet} {u : Unified} → Good f m → Quiet f m n → Outcome f m q u → Meets f m m n n q u
 meets_still h k o = record { grown = grown_none h; noting = noting_none; on = λ _. k; outcome = λ _. o }
 
 not_variable : (f : ℕ) (ts : Terms Variable) (x : Variable) → app f ts ≡ var x → ⊥
 not_variable f ts x e = let z : ◌≡◌ {A = ℕ} 0 1 = cc in omega arith
 
 module _ {f m n : List ℕ} {left right l r : ℕ} (h : Good f m) (k : Quiet f m n) (gl : FollowedTo f m left l) (gr : FollowedTo f m right r) where
-  abbrev Goal : List ℕ → List ℕ → Meeting → Type 0
+  abbrev Goal : List ℕ → List ℕ → Result (Unit {0}) Unmet → Type 0
   Goal m' n' q = Meets f m m' n n' q (unify (bindings_in f m) (term_of f m left) (term_of f m right))
 
-  pub met_same : l ≡ r → Goal m n Made
+  pub met_same : l ≡ r → Goal m n (Ok tt)
   met_same e =
       meets_still
       h
@@ -84,7 +85,7 @@ module _ {f m n : List ℕ} {left right l r : ℕ} (h : Good f m) (k : Quiet f m
         left_other (suc k) e t s =
             not_variable _ _ _ (sym (function_term gl.points (λ d. omega (arith, ap kind_of ev, e, d))) ∙ s)
 
-        pub met_variable : q ≡ true → Goal m n Made
+        pub met_variable : q ≡ true → Goal m n (Ok tt)
         met_variable t =
             meets_still h k (unify_same (bindings_in f m) _ _ (variable_of y) (sym gl.same ∙ left-named (kind_of v) refl (sym eq ∙ t)) right-term)
 
@@ -101,7 +102,7 @@ module _ {f m n : List ℕ} {left right l r : ℕ} (h : Good f m) (k : Quiet f m
           pub right_apart : Other f m y l
           right_apart = left_other (kind_of v) refl (sym eq ∙ t)
 
-          pub met_right : {m' n' : List ℕ} {o : Meeting} → Meets f m m' n n' o (bind (bindings_in f m) (variable_of y) (term_of f m l)) → Goal m' n' o
+          pub met_right : {m' n' : List ℕ} {o : Result (Unit {0}) Unmet} → Meets f m m' n n' o (bind (bindings_in f m) (variable_of y) (term_of f m l)) → Goal m' n' o
           met_right b =
               meets_as (unify_right (bindings_in f m) _ _ (term_of f m l) (variable_of y) (sym gl.same) right-term right_apart) b
 
@@ -134,7 +135,7 @@ module _ {f m n : List ℕ} {left right l r : ℕ} (h : Good f m) (k : Quiet f m
           pub left_apart : Other f m x r
           left_apart e = not_variable _ _ _ (sym (function_term gr.points right_other) ∙ e)
 
-          pub met_left : {m' n' : List ℕ} {o : Meeting} → Meets f m m' n n' o (bind (bindings_in f m) (variable_of x) (term_of f m r)) → Goal m' n' o
+          pub met_left : {m' n' : List ℕ} {o : Result (Unit {0}) Unmet} → Meets f m m' n n' o (bind (bindings_in f m) (variable_of x) (term_of f m r)) → Goal m' n' o
           met_left {m'} {n'} {o} b =
               meets_as
               (unify_left (bindings_in f m) _ _ (variable_of x) _ _
@@ -149,7 +150,7 @@ module _ {f m n : List ℕ} {left right l r : ℕ} (h : Good f m) (k : Quiet f m
           left_applied : follow (bindings_in f m) (term_of f m left) ≡ app (symbol_of (word_at f m l)) (first (arity_of (word_at f m l)) (terms_of f m (l + 1)))
           left_applied = sym gl.same ∙ function_term gl.points left_kind_other
 
-          pub met_clash : v < 2 ^ 32 → w < 2 ^ 32 → (v ≡ w → ⊥) → Goal m n Clash
+          pub met_clash : v < 2 ^ 32 → w < 2 ^ 32 → (v ≡ w → ⊥) → Goal m n (Err Clash)
           met_clash lv lw ne =
               meets_still
               h
@@ -203,5 +204,5 @@ module _ {f m n : List ℕ} {left right l r : ℕ} (h : Good f m) (k : Quiet f m
                 ap height (sym (follow_solution (bindings_in f m) (term_of f m left) h.sound) ∙ ap (under (solution (bindings_in f m))) left_applied) in
                 omega (arith, peak_height (unders (solution (bindings_in f m)) (first (arity_of (word_at f m l)) (terms_of f m (l + 1)))))
 
-            pub met_applied : {m' n' : List ℕ} {o : Meeting} → Meets f m m' n n' o (unify (bindings_in f m) (term_of f m l) (term_of f m r)) → Goal m' n' o
+            pub met_applied : {m' n' : List ℕ} {o : Result (Unit {0}) Unmet} → Meets f m m' n n' o (unify (bindings_in f m) (term_of f m l) (term_of f m r)) → Goal m' n' o
             met_applied b = meets_as (met_arguments (term_of f m left) (term_of f m right) left_applied right_applied ∙ sym both_applied.same) b

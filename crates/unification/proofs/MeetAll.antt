@@ -1,4 +1,5 @@
 -- Pairs of terms made equal, one after another: the outcomes, one law for each, with premises as the code has them.
+use Rattle.std.specs.Prelude.{Result, Ok, Err}
 use mathlib.Core.List.{List}
 use mathlib.Core.Path.{◌≡◌, refl, sym, ◌∙◌, ap, ap₂, subst}
 use native.Mathlib.Omega.{arith}
@@ -12,8 +13,8 @@ use Rattle.unification.specs.Places.{most_references}
 use Rattle.unification.specs.State.{Points, term_of, terms_of, bindings_in}
 use Rattle.unification.specs.Good.{word_at, arguments_of, Inside, Ahead, Good, Grown, Passed, Outcome}
 use Rattle.unification.specs.Thorough.{Quiet, Arguments, pairs_met, Noting, Meets}
-use Rattle.unification.specs.declared.unify.Meeting.{Meeting}
-use Rattle.unification.specs.declared.unify.Meeting.TheVariants.{Made, Clash, Circle}
+use Rattle.unification.specs.declared.unify.Unmet.{Unmet}
+use Rattle.unification.specs.declared.unify.Unmet.TheVariants.{Clash, Circle}
 use Rattle.unification.proofs.References.{tail_of, few, function_first, function_further, function_next, function_arguments, function_arity, points_fewer, first_terms}
 use Rattle.unification.proofs.Walk.{inside, small}
 use Rattle.unification.proofs.InPlace.{unifies_in_place}
@@ -32,18 +33,12 @@ pub record Going (f m₀ n₀ : List ℕ) (left right count : ℕ) (m n : List �
   pub same : pairs_met f m₀ left right count ≡ pairs_met f m l r more
   pub lighter : heft f m l more ≤ heft f m₀ left count
 
--- an outcome that is not the end of the pairs
-unfoldable pub Stops : Meeting → Type 0
-Stops Made = ⊥
-Stops Clash = Unit {0}
-Stops Circle = Unit {0}
-
 module _ {f m₀ n₀ : List ℕ} {left right count : ℕ} where
   pub all_start : Good f m₀ → Quiet f m₀ n₀ → Ahead f m₀ left count → Ahead f m₀ right count → Going f m₀ n₀ left right count m₀ n₀ left right count
   all_start h k p q = record { grown = grown_none h; noting = noting_none; quiet = k; lefts = p; rights = q; same = refl; lighter = omega arith }
 
   module _ {m n : List ℕ} {l r more : ℕ} (g : Going f m₀ n₀ left right count m n l r more) where
-    pub all_none : more ≡ 0 → Meets f m₀ m n₀ n Made (pairs_met f m₀ left right count)
+    pub all_none : more ≡ 0 → Meets f m₀ m n₀ n (Ok tt) (pairs_met f m₀ left right count)
     unfolding first
     all_none e = record { grown = g.grown; noting = g.noting; on = λ _. g.quiet; outcome = λ _. rw e at g.same ∙ unifies_nil (bindings_in f m) }
 
@@ -144,31 +139,22 @@ module _ {f m₀ n₀ : List ℕ} {left right count : ℕ} where
           ∙ ap₂ (unifies (bindings_in f m)) (first_terms left_points (more - 1)) (first_terms right_points (more - 1))
           ∙ unifies_then (bindings_in f m) (term_of f m l) (term_of f m r) _ _ g.grown.good.sound
 
-      module _ {m' n' : List ℕ} {q : Meeting} (met : Meets f m m' n n' q (unify (bindings_in f m) (term_of f m l) (term_of f m r))) where
+      module _ {m' n' : List ℕ} {q : Result (Unit {0}) Unmet} (met : Meets f m m' n n' q (unify (bindings_in f m) (term_of f m l) (term_of f m r))) where
         grown : Grown f m₀ m'
         grown = grown_then g.grown met.grown
 
         noting : Noting n₀ n'
         noting = noting_then g.noting met.noting
 
-        pub all_stops : Stops q → Meets f m₀ m' n₀ n' q (pairs_met f m₀ left right count)
-        unfolding after Stops
-        all_stops s = record { grown = grown; noting = noting; on = met.on; outcome = λ a. go q s (met.outcome a) }
-          where
-            go : (q : Meeting) → Stops q → Outcome f m' q (unify (bindings_in f m) (term_of f m l) (term_of f m r)) → Outcome f m' q (pairs_met f m₀ left right count)
-            go Made s o = absurd s
-            go Clash s o = rw o at split
-            go Circle s o = rw o at split
-
-        module _ (e : q ≡ Made) where
+        module _ (e : q ≡ Ok tt) where
           quiet : Quiet f m' n'
           quiet = met.on e
 
           made_so : pairs_met f m₀ left right count ≡ unifies (bindings_in f m') (first (more - 1) (rest 1 (terms_of f m l))) (first (more - 1) (rest 1 (terms_of f m r)))
           unfolding after
-          made_so = let o : Outcome f m' Made (unify (bindings_in f m) (term_of f m l) (term_of f m r)) = rw e at (met.outcome quiet.awake) in rw o at split
+          made_so = let o : Outcome {T = Unit {0}} f m' (Ok tt) (unify (bindings_in f m) (term_of f m l) (term_of f m r)) = rw e at (met.outcome quiet.awake) in rw o at split
 
-          pub all_last : more - 1 ≡ 0 → Meets f m₀ m' n₀ n' Made (pairs_met f m₀ left right count)
+          pub all_last : more - 1 ≡ 0 → Meets f m₀ m' n₀ n' (Ok tt) (pairs_met f m₀ left right count)
           unfolding first
           all_last z = record { grown = grown; noting = noting; on = λ _. quiet; outcome = λ _. rw z at made_so ∙ unifies_nil (bindings_in f m') }
 
@@ -210,6 +196,16 @@ module _ {f m₀ n₀ : List ℕ} {left right count : ℕ} where
                   same = rw (a.1, b.1) made_so;
                   lighter = omega (arith, g.lighter);
                 }
+
+      -- a pair that does not meet is the end
+      pub all_stops : {m' n' : List ℕ} {e : Unmet} → Meets f m m' n n' (Err e) (unify (bindings_in f m) (term_of f m l) (term_of f m r))
+          → Meets f m₀ m' n₀ n' (Err e) (pairs_met f m₀ left right count)
+      unfolding after
+      all_stops {m'} {n'} {e} met = record { grown = grown met; noting = noting met; on = met.on; outcome = λ a. go e (met.outcome a) }
+        where
+          go : (e : Unmet) → Outcome {T = Unit {0}} f m' (Err e) (unify (bindings_in f m) (term_of f m l) (term_of f m r)) → Outcome {T = Unit {0}} f m' (Err e) (pairs_met f m₀ left right count)
+          go Clash o = rw o at split
+          go Circle o = rw o at split
 
 pub all_begin : {f m n : List ℕ} {left right w a : ℕ} → Good f m → Quiet f m n → Arguments f m left right → w ≡ word_at f m left → a ≡ arity_of w
     → Going f m n (left + 1) (right + 1) (arity_of (word_at f m left)) m n (left + 1) (right + 1) a

@@ -1,4 +1,5 @@
 -- The newest copy's variables: no older term leads to them, and so they are bound without a look for them. Laws with premises as the code has them.
+use Rattle.std.specs.Prelude.{Ok}
 use borrow.Author.Tests.{eqb-true}
 use lib.Dec.{eqb}
 use mathlib.Core.Bool.{true, false}
@@ -23,7 +24,6 @@ use Rattle.unification.specs.Places.{most_variables}
 use Rattle.unification.specs.State.{copies_of, count_of, trail_at, bound_at, words_at, Points, term_of, variable_of, bindings_of, bindings_in}
 use Rattle.unification.specs.Good.{word_at, variable_at, arguments_of, occurs_under, Good, Held, Alike, Grown, pushed, FollowedTo, Passed, Binds}
 use Rattle.unification.specs.Thorough.{Quiet, Other, Older, Apart, pairs_met, Meets, Remaining}
-use Rattle.unification.specs.declared.unify.Meeting.TheVariants.{Made}
 use Rattle.unification.proofs.References.{variable_term, variable_copy, step_copy}
 use Rattle.unification.proofs.Walk.{few_variables, passed_variable}
 use Rattle.unification.proofs.Bound.{unbound}
@@ -35,11 +35,6 @@ use Rattle.unification.proofs.Meet.{meets_as}
 use Rattle.unification.proofs.Atoms.{literal_next}
 use Rattle.unification.proofs.ThoroughAtoms.{literal_arguments, brief_quiet}
 use Rattle.unification.proofs.MeetAll.{Going, all_begin, all_in_place, all_left, all_right, left_points, right_points, all_last, still, all_left_still, all_on}
-
--- a free variable that was seen at a word
-pub free_seen : (m : List ℕ) (r w : ℕ) {k x u : ℕ} → k ≡ kind_of w → k ≡ 0 → x ≡ variable_at r w → u ≡ x → eqb (bound_at m u) 0 ≡ true
-    → (kind_of w ≡ 0) × (bound_at m (variable_at r w) ≡ 0)
-free_seen m r w ek z ex eu t = (sym ek ∙ z, ap (λ (i : ℕ). bound_at m i) (sym (eu ∙ ex)) ∙ eqb-true _ _ t)
 
 -- a term's variables are its copy's
 term_over : (f m : List ℕ) (r : ℕ) → Over (λ y. y.copy ≡ r / 256) (term_of f m r)
@@ -164,14 +159,14 @@ module _ {f m₀ : List ℕ} {leaf entered : ℕ} {m : List ℕ} {l r more : ℕ
           }
 
       module _ {m' : List ℕ} (em : m' ≡ pushed m y to) where
-        met : Meets f m m' brief brief Made (unify (bindings_in f m) (term_of f m l) (term_of f m r))
+        met : Meets f m m' brief brief (Ok tt) (unify (bindings_in f m) (term_of f m l) (term_of f m r))
         met =
             meets_as
             (unify_right (bindings_in f m) _ _ (term_of f m to) (variable_of y) (sym s.same)
             (ap (follow (bindings_in f m)) term ∙ follow_unbound (bindings_in f m) (variable_of y) (unbound good y free)) apart)
             (bind_made good join_binds (looked_still (bind_checking good join_binds g.going.quiet) absent) refl em)
 
-        pub join_last : more - 1 ≡ 0 → Meets f m₀ m' brief brief Made (pairs_met f m₀ (leaf + 1) (entered + 1) (arity_of (word_at f m₀ leaf)))
+        pub join_last : more - 1 ≡ 0 → Meets f m₀ m' brief brief (Ok tt) (pairs_met f m₀ (leaf + 1) (entered + 1) (arity_of (word_at f m₀ leaf)))
         join_last z = all_last g.going some met refl z
 
         pub join_still : Good f m' × Points f m' l 1

@@ -1,4 +1,5 @@
 -- What is bound has grown, and the outcomes of binding a variable, one law for each, with premises as the code has them.
+use Rattle.std.specs.Prelude.{Ok, Err}
 use lib.ListN.{length, get_or, set, length-set}
 use lib.Seq.{get_or-set_same, get_or-set_other}
 use mathlib.Core.Bool.{Bool, true, false}
@@ -12,7 +13,7 @@ use Rattle.rules.proofs.Unify.Laws.{bind_made, bind_circle}
 use Rattle.unification.specs.Places.{most_variables, most_references, value_places, count_place, trail_places, work_words, most_copies}
 use Rattle.unification.specs.State.{copies_of, count_of, trail_at, bound_at, term_of, variable_of, bindings_in}
 use Rattle.unification.specs.Good.{Same, Good, Kept, Grown, pushed, Binds, Met, occurs_under}
-use Rattle.unification.specs.declared.unify.Meeting.TheVariants.{Made, Circle}
+use Rattle.unification.specs.declared.unify.Unmet.TheVariants.{Circle}
 use Rattle.unification.proofs.Bound.{free_some, kept_copied, kept_clauses, entry_small}
 use Rattle.unification.proofs.Stores.{Change, push_older, push_bindings, push_held}
 use Rattle.unification.proofs.Walk.{small}
@@ -105,7 +106,7 @@ module _ {f m : List ℕ} {v r : ℕ} (h : Good f m) (b : Binds f m v r) where
   bind_reference = small h b.points
 
   module _ {q : Bool} (eq : q ≡ occurs_under f m v (term_of f m r)) where
-    pub bind_occurs : q ≡ true → Met f m m Circle (bind (bindings_in f m) (variable_of v) (term_of f m r))
+    pub bind_occurs : q ≡ true → Met f m m (Err Circle) (bind (bindings_in f m) (variable_of v) (term_of f m r))
     bind_occurs e = record { grown = grown_none h; outcome = bind_circle (bindings_in f m) (variable_of v) (term_of f m r) (sym eq ∙ e) }
 
     module _ (e : q ≡ false) where
@@ -137,7 +138,7 @@ module _ {f m : List ℕ} {v r : ℕ} (h : Good f m) (b : Binds f m v r) where
       pub pushed_bound : bindings_in f (pushed m v r) ≡ record { variable = variable_of v; value = term_of f m r } ∷ bindings_in f m
       pushed_bound = rw count (push_bindings h change r b.free b.copy here last b.points)
 
-      pub bind_pushed : {m' : List ℕ} → m' ≡ pushed m v r → Met f m m' Made (bind (bindings_in f m) (variable_of v) (term_of f m r))
+      pub bind_pushed : {m' : List ℕ} → m' ≡ pushed m v r → Met f m m' (Ok tt) (bind (bindings_in f m) (variable_of v) (term_of f m r))
       bind_pushed {m'} em =
           record {
             grown = rw em pushed-grown;

@@ -1,4 +1,5 @@
 -- A comparison that gave up is taken back, and starts over with notes of full length.
+use Rattle.std.specs.Prelude.{Result}
 use lib.ListN.{length, get_or, set, replicate, length-set, length-replicate, get_or-replicate, get_or-eq_default}
 use lib.Seq.{get_or-set_same, get_or-set_other}
 use borrow.Author.Tests.{ltb-true, ltb-false}
@@ -16,7 +17,7 @@ use Rattle.unification.specs.Places.{trail_places}
 use Rattle.unification.specs.State.{start_at, count_of, terms_of, literal_at_reference, bindings_of, bindings_in}
 use Rattle.unification.specs.Good.{word_at, Inside, Same, Good, Grown, Ahead, Alike, Met, Undone}
 use Rattle.unification.specs.Thorough.{spare_of, Quiet, Arguments, pairs_met, arguments_met, Meets, Began, Remaining}
-use Rattle.unification.specs.declared.unify.Meeting.{Meeting}
+use Rattle.unification.specs.declared.unify.Unmet.{Unmet}
 use Rattle.unification.proofs.Bound.{bindings_length}
 use Rattle.unification.proofs.KeptStarts.{in_copies, same_start, same_points, same_terms}
 use Rattle.unification.proofs.Push.{same_then, grown_none, grown_then}
@@ -35,7 +36,7 @@ module _ {f m : List ℕ} {r s : ℕ} (h : Good f m) (p : Alike f m r s) where
         rights = atoms_right h p refl refl;
       }
 
-  pub literal_met : {m' : List ℕ} {q : Meeting} → Met f m m' q (arguments_met f m r s)
+  pub literal_met : {m' : List ℕ} {q : Result (Unit {0}) Unmet} → Met f m m' q (arguments_met f m r s)
       → Met f m m' q (unify (bindings_in f m) (atom (literal_at_reference f m r)) (atom (literal_at_reference f m s)))
   literal_met met = atoms_met h p refl refl met
 
@@ -43,7 +44,7 @@ module _ {f m : List ℕ} {r s : ℕ} (h : Good f m) (p : Alike f m r s) where
 pub brief_quiet : {f m n : List ℕ} → length n ≡ 1 → 0 < spare_of n → Quiet f m n
 brief_quiet {f} {m} {n} l a = quiet_blank (λ i p. get_or-eq_default n 0 {n = i} (omega arith)) a
 
-pub brief_met : {f m m' n n' : List ℕ} {q : Meeting} {u : Unified} → Meets f m m' n n' q u → (spare_of n' ≡ 0 → ⊥) → Met f m m' q u
+pub brief_met : {f m m' n n' : List ℕ} {q : Result (Unit {0}) Unmet} {u : Unified} → Meets f m m' n n' q u → (spare_of n' ≡ 0 → ⊥) → Met f m m' q u
 brief_met met some = record { grown = met.grown; outcome = met.outcome (omega arith) }
 
 -- notes of full length
@@ -64,10 +65,10 @@ module _ (k : ℕ) (long : 1 < k) where
   full-length : length {A = ℕ} (set (replicate k 0) 0 1) ≡ k
   full-length = length-set (replicate k 0) 0 1 ∙ length-replicate k 0
 
-  pub full_awake : {f m m' n' : List ℕ} {q : Meeting} {u : Unified} → Meets f m m' (set (replicate k 0) 0 1) n' q u → spare_of n' ≡ 1
+  pub full_awake : {f m m' n' : List ℕ} {q : Result (Unit {0}) Unmet} {u : Unified} → Meets f m m' (set (replicate k 0) 0 1) n' q u → spare_of n' ≡ 1
   full_awake met = met.noting.spare (λ e. omega (arith, full-length)) ∙ full-spare
 
-  pub full_met : {f m m' n' : List ℕ} {q : Meeting} {u : Unified} → Meets f m m' (set (replicate k 0) 0 1) n' q u → Met f m m' q u
+  pub full_met : {f m m' n' : List ℕ} {q : Result (Unit {0}) Unmet} {u : Unified} → Meets f m m' (set (replicate k 0) 0 1) n' q u → Met f m m' q u
   full_met met = record { grown = met.grown; outcome = met.outcome (omega (arith, full_awake met)) }
 
 -- what was bound on the way is taken back
@@ -156,7 +157,7 @@ module _ {f m m₁ m₂ : List ℕ} {kept r s : ℕ} (b : Began f m m₁ kept r 
     pub again_rights : Ahead f m₂ (s + 1) a
     again_rights = rw again_count again_arguments.rights
 
-    pub again_met : {m' : List ℕ} {q : Meeting} → Met f m₂ m' q (pairs_met f m₂ (r + 1) (s + 1) a)
+    pub again_met : {m' : List ℕ} {q : Result (Unit {0}) Unmet} → Met f m₂ m' q (pairs_met f m₂ (r + 1) (s + 1) a)
         → Met f m m' q (unify (bindings_in f m) (atom (literal_at_reference f m r)) (atom (literal_at_reference f m s)))
     again_met met =
         let e : arguments_met f m r s ≡ pairs_met f m₂ (r + 1) (s + 1) a =
@@ -179,7 +180,7 @@ module _ {f m m' : List ℕ} {kept r s left right count : ℕ} (b : Remaining f 
   remaining_began g =
       record { good = b.began.good; alike = b.began.alike; grown = grown_then b.began.grown g; count = b.began.count }
 
-  pub remaining_met : {m'' : List ℕ} {q : Meeting} → Met f m' m'' q (pairs_met f m' left right count)
+  pub remaining_met : {m'' : List ℕ} {q : Result (Unit {0}) Unmet} → Met f m' m'' q (pairs_met f m' left right count)
       → Met f m m'' q (unify (bindings_in f m) (atom (literal_at_reference f m r)) (atom (literal_at_reference f m s)))
   remaining_met met =
       literal_met b.began.good b.began.alike (met_as b.same (record { grown = grown_then b.began.grown met.grown; outcome = met.outcome }))

@@ -1,4 +1,5 @@
 -- A variable bound, and what is noted: the outcomes, one law for each, with premises as the code has them.
+use Rattle.std.specs.Prelude.{Ok, Err}
 use borrow.Author.Tests.{eqb-true, eqb-false}
 use lib.Dec.{eqb}
 use mathlib.Core.Bool.{Bool, true, false}
@@ -16,7 +17,7 @@ use Rattle.unification.specs.Places.{most_variables}
 use Rattle.unification.specs.State.{bound_at, term_of, variable_of, bindings_in}
 use Rattle.unification.specs.Good.{word_at, variable_at, arguments_of, Good, pushed, Binds, Met, occurs_under}
 use Rattle.unification.specs.Thorough.{Quiet, Checking, Other, Looked, Meets}
-use Rattle.unification.specs.declared.unify.Meeting.TheVariants.{Made, Circle}
+use Rattle.unification.specs.declared.unify.Unmet.TheVariants.{Circle}
 use Rattle.unification.proofs.Push.{grown_none, pushed_here, pushed_change, bind_small, bind_room, bind_occurs, bind_pushed}
 use Rattle.unification.proofs.Words.{function_kind}
 use Rattle.unification.proofs.References.{variable_term, function_term, function_shape}
@@ -34,7 +35,7 @@ module _ {f m n : List ℕ} {v r : ℕ} (h : Good f m) (b : Binds f m v r) where
       }
 
   module _ {n' : List ℕ} {q : Bool} (l : Looked f m n n' v q (occurs_under f m v (term_of f m r))) where
-    pub bind_circle : q ≡ true → Meets f m m n n' Circle (bind (bindings_in f m) (variable_of v) (term_of f m r))
+    pub bind_circle : q ≡ true → Meets f m m n n' (Err Circle) (bind (bindings_in f m) (variable_of v) (term_of f m r))
     bind_circle e =
         record {
           grown = grown_none h;
@@ -47,7 +48,7 @@ module _ {f m n : List ℕ} {v r : ℕ} (h : Good f m) (b : Binds f m v r) where
       noted : Checking f m n' v
       noted = l.on e
 
-      met : Met f m m' Made (bind (bindings_in f m) (variable_of v) (term_of f m r))
+      met : Met f m m' (Ok tt) (bind (bindings_in f m) (variable_of v) (term_of f m r))
       met = bind_pushed h b (l.outcome noted.notes.awake) e em
 
       still_free : (u : ℕ) → u < most_variables → bound_at m' u ≡ 0 → (u ≡ v → ⊥) × (bound_at m u ≡ 0)
@@ -55,7 +56,7 @@ module _ {f m n : List ℕ} {v r : ℕ} (h : Good f m) (b : Binds f m v r) where
           let other : u ≡ v → ⊥ = λ d. omega (arith, rw (em, d) at z, pushed_here m v r h.size (bind_room h b) (bind_small h b)) in
           (other, sym ((pushed_change m v r h.size (bind_room h b) (bind_small h b) h.copies).others u lu other) ∙ rw em at z)
 
-      pub bind_made : Meets f m m' n n' Made (bind (bindings_in f m) (variable_of v) (term_of f m r))
+      pub bind_made : Meets f m m' n n' (Ok tt) (bind (bindings_in f m) (variable_of v) (term_of f m r))
       bind_made =
           record {
             grown = met.grown;
@@ -89,5 +90,5 @@ module _ {f m : List ℕ} {v r : ℕ} (h : Good f m) (b : Binds f m v r) (other 
   lone : false ≡ occurs_under f m v (term_of f m r)
   lone = decide (eqb (kind_of (word_at f m r)) 0) (λ e. a_variable (eqb-true _ _ e)) (λ e. a-constant (eqb-false _ _ e))
 
-  pub bind_lone : {n : List ℕ} → Quiet f m n → {m' : List ℕ} → m' ≡ pushed m v r → Meets f m m' n n Made (bind (bindings_in f m) (variable_of v) (term_of f m r))
+  pub bind_lone : {n : List ℕ} → Quiet f m n → {m' : List ℕ} → m' ≡ pushed m v r → Meets f m m' n n (Ok tt) (bind (bindings_in f m) (variable_of v) (term_of f m r))
   bind_lone k em = bind_made h b (looked_still (bind_checking h b k) lone) refl em

@@ -23,9 +23,6 @@ pub record Popped (f m₀ m : List ℕ) (kept count : ℕ) : Type 0 where
   pub values : (i : ℕ) → i < count → bound_at m (trail_at m₀ i) ≡ bound_at m₀ (trail_at m₀ i)
   pub leaves : Same value_end work_words m₀ m
 
-pub pop_begin : {f m : List ℕ} {kept : ℕ} → Good f m → kept ≤ count_of m → Popped f m m kept (count_of m)
-pop_begin h l = record { held = h; least = l; older = λ k l. refl; stays = λ v s l. refl; copies = same_none; trail = same_none; values = λ i l. refl; leaves = same_none }
-
 set_same : (m : List ℕ) (i x from to : ℕ) → ((j : ℕ) → from ≤ j → j < to → j ≡ i → ⊥) → Same from to m (set m i x)
 set_same m i x from to d = record { words = λ j l k. get_or-set_other m i j x 0 (d j l k) }
 

@@ -1,5 +1,5 @@
 -- Machinery: when the work words hold a state, and what the functions on them promise one another. No public contract speaks of it.
-use Rattle.std.specs.Prelude.{Bool, true, false, ◌||◌, List, [], ◌∷◌, ◌≡◌, ℕ, zero, suc, ◌+◌, ◌*◌, ◌-◌, ◌/◌, ◌%◌, ◌≤◌, ◌<◌, eqb, length, get_or, set}
+use Rattle.std.specs.Prelude.{Result, Ok, Err, Bool, true, false, ◌||◌, List, [], ◌∷◌, ◌≡◌, ℕ, zero, suc, ◌+◌, ◌*◌, ◌-◌, ◌/◌, ◌%◌, ◌≤◌, ◌<◌, eqb, length, get_or, set}
 use Rattle.std.proofs.Math.Option.{none}
 use Rattle.words.specs.Fields.{kind_of, number_of, symbol_of, arity_of, variables_of}
 use Rattle.table.specs.Syntax.{Term, under}
@@ -10,8 +10,8 @@ use Rattle.rules.specs.Machinery.Unify.{Unified, made, clash, circle, follow, oc
 use Rattle.rules.proofs.Unify.Solution as bindings
 use Rattle.unification.specs.Places.{most_variables, trail_end, value_places, value_end, count_place, spare_places, trail_places, work_words, most_copies}
 use Rattle.unification.specs.State.{start_at, copies_of, count_of, trail_at, bound_at, ClauseAt, words_at, terms_of, term_of, Points, variable_of, bindings_of, bindings_in}
-use Rattle.unification.specs.declared.unify.Meeting.{Meeting}
-use Rattle.unification.specs.declared.unify.Meeting.TheVariants.{Made, Clash, Circle}
+use Rattle.unification.specs.declared.unify.Unmet.{Unmet}
+use Rattle.unification.specs.declared.unify.Unmet.TheVariants.{Clash, Circle}
 
 -- the word at a reference, and the variable that it names there
 abbrev pub word_at : List ℕ → List ℕ → ℕ → ℕ
@@ -146,12 +146,12 @@ pub record Binds (f m : List ℕ) (v r : ℕ) : Type 0 where
   pub followed : bindings.Followed (bindings_in f m) (term_of f m r)
 
 -- how a meeting ended, by what the rules say of it
-abbrev pub Outcome : List ℕ → List ℕ → Meeting → Unified → Type 0
-Outcome f m Made u = u ≡ made (bindings_in f m)
-Outcome f m Clash u = u ≡ clash
-Outcome f m Circle u = u ≡ circle
+abbrev pub Outcome : {T : Type 0} → List ℕ → List ℕ → Result T Unmet → Unified → Type 0
+Outcome f m (Ok _) u = u ≡ made (bindings_in f m)
+Outcome f m (Err Clash) u = u ≡ clash
+Outcome f m (Err Circle) u = u ≡ circle
 
-pub record Met (f m m' : List ℕ) (r : Meeting) (u : Unified) : Type 0 where
+pub record Met (f m m' : List ℕ) (r : Result (Unit {0}) Unmet) (u : Unified) : Type 0 where
   pub grown : Grown f m m'
   pub outcome : Outcome f m' r u
 

@@ -1,5 +1,5 @@
 -- Machinery: what a comparison notes for itself, so that variables lead it into nothing twice. No public contract speaks of it.
-use Rattle.std.specs.Prelude.{Bool, true, false, List, ◌≡◌, ℕ, ◌+◌, ◌-◌, ◌/◌, ◌≤◌, ◌<◌, length, get_or}
+use Rattle.std.specs.Prelude.{Result, Ok, Bool, true, false, List, ◌≡◌, ℕ, ◌+◌, ◌-◌, ◌/◌, ◌≤◌, ◌<◌, length, get_or}
 use Rattle.words.specs.Fields.{arity_of}
 use Rattle.table.specs.Syntax.{var, under}
 use Rattle.table.specs.Decode.{first}
@@ -9,8 +9,7 @@ use Rattle.rules.specs.Machinery.Unify.{Unified, occurs, solution, unify, unifie
 use Rattle.unification.specs.Places.{most_variables, most_references, mark_places}
 use Rattle.unification.specs.State.{count_of, bound_at, Points, term_of, terms_of, variable_of, bindings_in}
 use Rattle.unification.specs.Good.{word_at, Inside, Ahead, Alike, Good, Grown, Outcome}
-use Rattle.unification.specs.declared.unify.Meeting.{Meeting}
-use Rattle.unification.specs.declared.unify.Meeting.TheVariants.{Made}
+use Rattle.unification.specs.declared.unify.Unmet.{Unmet}
 
 -- The notes: how many more terms may be looked into, for each reference a link, and for each variable a mark. Notes of one word have neither.
 abbrev pub spare_of : List ℕ → ℕ
@@ -107,10 +106,10 @@ pub record Looked (f m n n' : List ℕ) (x : ℕ) (r answer : Bool) : Type 0 whe
   pub outcome : 0 < spare_of n' → r ≡ answer
 
 -- how a meeting ended, so too
-pub record Meets (f m m' n n' : List ℕ) (r : Meeting) (u : Unified) : Type 0 where
+pub record Meets (f m m' n n' : List ℕ) (r : Result (Unit {0}) Unmet) (u : Unified) : Type 0 where
   pub grown : Grown f m m'
   pub noting : Noting n n'
-  pub on : r ≡ Made → Quiet f m' n'
+  pub on : r ≡ Ok tt → Quiet f m' n'
   pub outcome : 0 < spare_of n' → Outcome f m' r u
 
 -- a comparison of two literals began with so many bindings, and has bound more

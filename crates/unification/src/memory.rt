@@ -58,11 +58,7 @@ pub fn clear(work: &mut [u32], from: usize, count: usize)
     requires { from + count ≤ length work.old }
     ensures { work.new ≡ take from work.old ++ replicate count 0 ++ drop (from + count) work.old }
 {
-    let mut i = 0;
-    while i < count {
-        work[from + i] = 0;
-        i += 1;
-    }
+    work[from..from + count].fill(0);
 }
 
 // One more binding.

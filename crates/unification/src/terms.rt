@@ -27,6 +27,7 @@ pub fn follow(file: &[u32], work: &[u32], reference: u32) -> u32
 }
 
 // How many terms are owed after a word of one of them.
+#[tactic(auto, using(crate::proofs::Walk::owed_arguments, crate::proofs::Walk::owed_none))]
 pub fn owed_after(owed: u32, word: u32) -> u32
     requires { (0 < owed) × (owed ≤ 256) }
     ensures { result ≡ owed - 1 + arguments_of (kind_of word) word }
@@ -44,6 +45,7 @@ pub fn after(file: &[u32], work: &[u32], reference: u32) -> u32
 {
     let mut at = reference;
     let mut owed: u32 = 1;
+    // No index loop: it ends when nothing is owed, at a place not known before.
     while owed != 0 {
         owed = owed_after(owed, memory::word_at(file, work, at));
         at += 1;

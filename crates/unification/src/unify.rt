@@ -11,9 +11,9 @@ ghost use Rattle.unification.specs.Thorough.{spare_of, link_at, mark_at, Down, R
 use crate::{memory, terms};
 use words::fields;
 
+// Why two terms are not made equal: two symbols differ, or a variable would hold itself.
 #[derive(Clone, Copy)]
-pub enum Meeting {
-    Made,
+pub enum Unmet {
     Clash,
     Circle,
 }
@@ -29,6 +29,7 @@ const LINKS: usize = 1;
 const MARKS: usize = 8449;
 
 // One term fewer may be looked into. Whether none is left.
+#[tactic(auto, using(crate::proofs::Thorough::spend_thorough, crate::proofs::Thorough::spend_one))]
 fn spend(notes: &mut [u32]) -> bool
     requires { 0 < spare_of notes.old }
     ensures { Spent notes.old notes.new result }
@@ -63,10 +64,9 @@ fn link(notes: &mut [u32], from: u32, to: u32)
     ensures { notes.new ≡ set notes.old (1 + from) (to + 1) }
 {
     let at = LINKS + fields::wide(from);
-    if notes.len() <= at {
-        return;
+    if at < notes.len() {
+        notes[at] = to + 1;
     }
-    notes[at] = to + 1;
 }
 
 // Whether a variable was looked for in another, in vain.
@@ -75,10 +75,7 @@ fn marked(notes: &[u32], met: u32, variable: u32) -> bool
     ensures { result ≡ true → mark_at notes.now met ≡ variable + 1 }
 {
     let at = MARKS + fields::wide(met);
-    if notes.len() <= at {
-        return false;
-    }
-    notes[at] == variable + 1
+    at < notes.len() && notes[at] == variable + 1
 }
 
 fn mark(notes: &mut [u32], met: u32, variable: u32)
@@ -86,10 +83,9 @@ fn mark(notes: &mut [u32], met: u32, variable: u32)
     ensures { notes.new ≡ set notes.old (mark_places + met) (variable + 1) }
 {
     let at = MARKS + fields::wide(met);
-    if notes.len() <= at {
-        return;
+    if at < notes.len() {
+        notes[at] = variable + 1;
     }
-    notes[at] = variable + 1;
 }
 
 // Whether a free variable occurs in a term under what is bound.
@@ -100,6 +96,7 @@ fn occurs(file: &[u32], work: &[u32], notes: &mut [u32], variable: u32, referenc
 {
     let mut at = reference;
     let mut owed: u32 = 1;
+    // No index loop: it ends when nothing is owed, at a place not known before.
     while owed != 0 {
         let word = memory::word_at(file, work, at);
         if occurs_at(file, work, notes, variable, at, word) {
@@ -166,48 +163,57 @@ fn occurs_through(
 }
 
 // A free variable is bound to a term that was followed, unless it occurs there.
-fn bind(file: &[u32], work: &mut [u32], notes: &mut [u32], variable: u32, reference: u32) -> Meeting
+fn bind(
+    file: &[u32],
+    work: &mut [u32],
+    notes: &mut [u32],
+    variable: u32,
+    reference: u32,
+) -> Result<(), Unmet>
     requires { Good file.now work.old × Quiet file.now work.old notes.old × Binds file.now work.old variable reference × Other file.now work.old variable reference }
     ensures { Meets file.now work.old work.new notes.old notes.new result (bind (bindings_in file.now work.old) (variable_of variable) (term_of file.now work.old reference)) }
 {
     // A single word is another free variable, or a constant.
     if terms::owed_after(1, memory::word_at(file, work, reference)) == 0 {
         memory::push(work, variable, reference);
-        return Meeting::Made;
+        return Ok(());
     }
     if occurs(file, work, notes, variable, reference) {
-        return Meeting::Circle;
+        return Err(Unmet::Circle);
     }
     memory::push(work, variable, reference);
-    Meeting::Made
+    Ok(())
 }
 
 // Whether the word at a reference is this variable's.
 fn same_variable(reference: u32, word: u32, variable: u32) -> bool
     ensures { result ≡ names_variable (kind_of word) reference word variable }
 {
-    if fields::kind(word) != 0 {
-        return false;
-    }
-    memory::variable_at(reference, word) == variable
+    fields::kind(word) == 0 && memory::variable_at(reference, word) == variable
 }
 
 #[cycle(meet_meet_all_meet_applied)]
-fn meet(file: &[u32], work: &mut [u32], notes: &mut [u32], left: u32, right: u32) -> Meeting
+fn meet(
+    file: &[u32],
+    work: &mut [u32],
+    notes: &mut [u32],
+    left: u32,
+    right: u32,
+) -> Result<(), Unmet>
     requires { Good file.now work.old × Quiet file.now work.old notes.old × Points file.now work.old left 1 × Points file.now work.old right 1 }
     ensures { Meets file.now work.old work.new notes.old notes.new result (unify (bindings_in file.now work.old) (term_of file.now work.old left) (term_of file.now work.old right)) }
 {
     let l = terms::follow(file, work, left);
     let r = terms::follow(file, work, right);
     if l == r {
-        return Meeting::Made;
+        return Ok(());
     }
     let v = memory::word_at(file, work, l);
     let w = memory::word_at(file, work, r);
     if fields::kind(w) == 0 {
         let y = memory::variable_at(r, w);
         if same_variable(l, v, y) {
-            return Meeting::Made;
+            return Ok(());
         }
         return bind(file, work, notes, y, l);
     }
@@ -215,46 +221,46 @@ fn meet(file: &[u32], work: &mut [u32], notes: &mut [u32], left: u32, right: u32
         return bind(file, work, notes, memory::variable_at(l, v), r);
     }
     if v != w {
-        return Meeting::Clash;
+        return Err(Unmet::Clash);
     }
     meet_applied(file, work, notes, l, r)
 }
 
 // Two applications of one symbol.
 #[cycle(meet_meet_all_meet_applied)]
-fn meet_applied(file: &[u32], work: &mut [u32], notes: &mut [u32], left: u32, right: u32) -> Meeting
+fn meet_applied(
+    file: &[u32],
+    work: &mut [u32],
+    notes: &mut [u32],
+    left: u32,
+    right: u32,
+) -> Result<(), Unmet>
     requires { Good file.now work.old × Quiet file.now work.old notes.old × Applied file.now work.old left right }
     ensures { Meets file.now work.old work.new notes.old notes.new result (unify (bindings_in file.now work.old) (term_of file.now work.old left) (term_of file.now work.old right)) }
 {
     let l = root(notes, left);
     let r = root(notes, right);
     if l == r {
-        return Meeting::Made;
+        return Ok(());
     }
     if spend(notes) {
-        return Meeting::Clash;
+        return Err(Unmet::Clash);
     }
     let count = fields::arity(memory::word_at(file, work, left));
-    let met = meet_all(file, work, notes, left + 1, right + 1, count);
-    let Meeting::Made = met else {
-        return met;
-    };
+    meet_all(file, work, notes, left + 1, right + 1, count)?;
     if l < r {
         link(notes, r, l);
-        return Meeting::Made;
+        return Ok(());
     }
     link(notes, l, r);
-    Meeting::Made
+    Ok(())
 }
 
 // Whether two words are the same, a function's or a constant's.
 fn same_function(word: u32, other: u32) -> bool
     ensures { result ≡ true → (kind_of word ≡ 1) × (word ≡ other) }
 {
-    if fields::kind(word) != 1 {
-        return false;
-    }
-    word == other
+    fields::kind(word) == 1 && word == other
 }
 
 // So many pairs of terms from two references on, from left to right. In place of two applications of one symbol stand their arguments.
@@ -266,7 +272,7 @@ fn meet_all(
     left: u32,
     right: u32,
     count: u32,
-) -> Meeting
+) -> Result<(), Unmet>
     requires { Good file.now work.old × Quiet file.now work.old notes.old × Ahead file.now work.old left count × Ahead file.now work.old right count }
     ensures { Meets file.now work.old work.new notes.old notes.new result (pairs_met file.now work.old left right count) }
 {
@@ -281,22 +287,25 @@ fn meet_all(
             r += 1;
             continue;
         }
-        let met = meet(file, work, notes, l, r);
-        let Meeting::Made = met else {
-            return met;
-        };
+        meet(file, work, notes, l, r)?;
         more -= 1;
         if more == 0 {
-            return Meeting::Made;
+            return Ok(());
         }
         l = terms::after(file, work, l);
         r = terms::after(file, work, r);
     }
-    Meeting::Made
+    Ok(())
 }
 
 // The atoms of two literals, thoroughly, after a comparison that gave up was taken back.
-fn meet_thoroughly(file: &[u32], work: &mut [u32], kept: u32, leaf: u32, other: u32) -> Meeting
+fn meet_thoroughly(
+    file: &[u32],
+    work: &mut [u32],
+    kept: u32,
+    leaf: u32,
+    other: u32,
+) -> Result<(), Unmet>
     requires { (m : List ℕ) × Began file.now m work.old kept leaf other }
     ensures { (m : List ℕ) → Began file.now m work.old kept leaf other → Met file.now m work.new result (unify (bindings_in file.now m) (atom (literal_at_reference file.now m leaf)) (atom (literal_at_reference file.now m other))) }
 {
@@ -322,7 +331,7 @@ fn meet_rest(
     left: u32,
     right: u32,
     count: u32,
-) -> Meeting
+) -> Result<(), Unmet>
     requires { (m : List ℕ) × Remaining file.now m work.old kept leaf other left right count }
     ensures { (m : List ℕ) → Remaining file.now m work.old kept leaf other left right count → Met file.now m work.new result (unify (bindings_in file.now m) (atom (literal_at_reference file.now m leaf)) (atom (literal_at_reference file.now m other))) }
 {
@@ -335,7 +344,7 @@ fn meet_rest(
 }
 
 // The atoms of two literals of one predicate and arity.
-pub fn meet_atoms(file: &[u32], work: &mut [u32], leaf: u32, other: u32) -> Meeting
+pub fn meet_atoms(file: &[u32], work: &mut [u32], leaf: u32, other: u32) -> Result<(), Unmet>
     requires { Good file.now work.old × Alike file.now work.old leaf other }
     ensures { Met file.now work.old work.new result (unify (bindings_in file.now work.old) (atom (literal_at_reference file.now work.old leaf)) (atom (literal_at_reference file.now work.old other))) }
 {
@@ -349,15 +358,13 @@ fn is_free(work: &[u32], reference: u32, word: u32) -> bool
     requires { (length work.now ≡ work_words) × (kind_of word ≡ 0 → variable_at reference word < most_variables) }
     ensures { result ≡ true → (kind_of word ≡ 0) × (bound_at work.now (variable_at reference word) ≡ 0) }
 {
-    if fields::kind(word) != 0 {
-        return false;
-    }
-    work[memory::BOUND + fields::wide(memory::variable_at(reference, word))] == 0
+    fields::kind(word) == 0
+        && work[memory::BOUND + fields::wide(memory::variable_at(reference, word))] == 0
 }
 
 // The atoms of a leaf and of the literal by which the newest copy was entered. As long as none but the copy's own variables are bound,
 // no older term leads to one of them, and so they are not looked for there.
-pub fn meet_entered(file: &[u32], work: &mut [u32], leaf: u32, entered: u32) -> Meeting
+pub fn meet_entered(file: &[u32], work: &mut [u32], leaf: u32, entered: u32) -> Result<(), Unmet>
     requires { Good file.now work.old × Alike file.now work.old leaf entered × Apart file.now work.old leaf entered }
     ensures { Met file.now work.old work.new result (unify (bindings_in file.now work.old) (atom (literal_at_reference file.now work.old leaf)) (atom (literal_at_reference file.now work.old entered))) }
 {
@@ -381,12 +388,12 @@ pub fn meet_entered(file: &[u32], work: &mut [u32], leaf: u32, entered: u32) -> 
         memory::push(work, memory::variable_at(r, other), value);
         more -= 1;
         if more == 0 {
-            return Meeting::Made;
+            return Ok(());
         }
         l = terms::after(file, work, l);
         r += 1;
     }
-    Meeting::Made
+    Ok(())
 }
 
 // The variables bound since a moment are free again.
@@ -394,10 +401,8 @@ pub fn undo(work: &mut [u32], kept: u32)
     requires { ((f : List ℕ) × Good f work.old) × (kept ≤ count_of work.old) }
     ensures { (f : List ℕ) → Good f work.old → Undone f work.old work.new kept }
 {
-    let mut count = work[memory::COUNT];
-    while kept < count {
-        count -= 1;
-        let variable = work[memory::TRAIL + fields::wide(count)];
+    for i in (kept..work[memory::COUNT]).rev() {
+        let variable = work[memory::TRAIL + fields::wide(i)];
         work[memory::BOUND + fields::wide(variable)] = 0;
     }
     work[memory::COUNT] = kept;

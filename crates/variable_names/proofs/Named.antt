@@ -1,4 +1,5 @@
 -- The name of a variable, by the numbers of its clause's words, with premises as the code has them.
+use Rattle.std.specs.Prelude.{Err}
 use mathlib.Core.Bool.{Bool, true, false, cond}
 use mathlib.Core.List.{List, [], ◌∷◌, ◌++◌}
 use mathlib.Core.Path.{◌≡◌, refl, sym, ap, ◌∙◌}
@@ -11,11 +12,9 @@ use lib.Dec.{eqb}
 use lib.ListN.{length, take, drop, get_or, length-append, length-drop, length-map, get_or-append, get_or-eq_default}
 use lib.Seq.{get_or-append_seam}
 use Rattle.words.specs.Fields.{kind_of}
-use Rattle.clausetext.specs.declared.judge.Verdict.{Verdict}
-use Rattle.clausetext.specs.declared.judge.Verdict.TheVariants.{Wrong}
 use Rattle.clausetext.specs.Judging.{judged}
 use Rattle.clausetext.specs.Syntax.{Clause}
-use Rattle.clausetext.specs.Texts.{Says, Permitted, fine}
+use Rattle.clausetext.specs.Texts.{Verdict, Says, Permitted, fine}
 use Rattle.clausetext.proofs.Judgement.{only_verdict}
 use Rattle.clausetext.proofs.OneReading.{one_reading}
 use Rattle.names.specs.Numbers.{Name, noted, known_after, first_uses, number_in}
@@ -23,7 +22,7 @@ use Rattle.names.specs.Noting.{name_at, names_at, uses_of, numbered, Numbering}
 use Rattle.names.proofs.Same.{no_name}
 use Rattle.names.proofs.Notes.{number_within, noted_known, noted_new}
 use Rattle.naming.specs.Index.{IsNamed}
-use Rattle.naming.proofs.Lookups.{named_at, none_named, none_stands}
+use Rattle.naming.proofs.Lookups.{named_at, none_named, none_stands, none_is_named}
 use Rattle.tptp.specs.Said.{variable_uses}
 use Rattle.tptp.specs.Sketch.{Item}
 use Rattle.tptp.specs.Shapes.{sort_kind}
@@ -32,6 +31,7 @@ use Rattle.tptp.specs.Body.{ahead, part, Held}
 use Rattle.tptp.proofs.Items.{names_of_kind, literals_variables}
 use Rattle.variable_names.specs.Named.{literals_at, few_named, variable_name, IsVariable}
 use Rattle.variable_names.specs.Finding.{sorts, place_of, own_kinds, first_of, Among, IsSaid}
+use Rattle.variable_names.proofs.Walks.{kinds_long}
 use Rattle.variable_names.proofs.Clauses.{own_part}
 
 -- names are known for good
@@ -119,7 +119,13 @@ module _ (text : Bor (List ℕ)) (marks places : List ℕ) (wanted : ℕ) where
           is = is;
         }
 
-pub ruleset among_laws = (among_late, among_over, among_found)
+    pub among_nowhere : many ≤ 16 → (own : List ℕ) → length marks ≡ length own → length places ≡ length own → wanted < 16
+        → length words' ≤ first_of wanted words' → (ptr : ℕ × ℕ) → Among text marks places wanted (record { ref_ptr = ptr; now = [] })
+    among_nowhere h own a b small e ptr =
+        let all : length places ≤ first_of wanted words' = omega (arith, n.long, ap (λ (l : List ℕ). length l) k, kinds_long marks, a, b, e) in
+        among_found h own a b small refl (none_is_named text places all ptr)
+
+pub ruleset among_laws = (among_late, among_over, among_found, among_nowhere)
 
 -- the uses of variables in a clause's items
 kind_told : (s : ℕ) → eqb (kind_of (cond (eqb s 0) 0 1073741824)) 0 ≡ eqb (sort_kind s) 0
@@ -165,7 +171,7 @@ said_variable text short p i = record {
   long = λ h. absurd (omega (arith, h, short));
 }
 
-pub wrong_variable : (text : Bor (List ℕ)) {clause wanted : ℕ} {v : Verdict} → v ≡ judged text.now → {place : ℕ} → v ≡ Wrong place → (ptr : ℕ × ℕ)
+pub wrong_variable : (text : Bor (List ℕ)) {clause wanted : ℕ} {v : Verdict} → v ≡ judged text.now → {place : ℕ} → v ≡ Err place → (ptr : ℕ × ℕ)
     → IsVariable text clause wanted (record { ref_ptr = ptr; now = [] })
 wrong_variable text is e ptr = record {
   at = length text.now;

@@ -1,51 +1,31 @@
 -- Marks and words gone through one by one, with premises as the code has them.
-use mathlib.Core.Bool.{true, cond}
+use mathlib.Core.Bool.{Bool, true, false, cond}
 use mathlib.Core.List.{List, [], ◌∷◌}
 use mathlib.Core.Path.{◌≡◌, refl, sym, ap, ◌∙◌}
 use Prim.Native.Nat.{ℕ, zero, suc, ◌+◌, ◌-◌, ◌%◌, ◌^◌, ◌≤◌, ◌<◌}
 use native.Mathlib.Numerals.{add-one}
 use native.Mathlib.Omega.{arith}
-use mir.Syntax.{w64}
-use mir.Val.{Fits}
-use borrow.Author.Tests.{eq-eqb, ne_eqb, lt-ltb, le-ltb}
+use borrow.Author.Tests.{eq-eqb, ne_eqb, lt-ltb, le-ltb, ltb-false}
 use lib.Dec.{eqb}
 use lib.ListN.{length, take, drop, get_or, set, length-set, drop_of_length-le}
 use lib.Seq.{drop-cons, take-suc, take-suc-set, take_all}
-use Rattle.variable_names.specs.Finding.{sorts, how_many, further, behind, place_of, own_kinds, first_of}
+use Rattle.std.specs.Prelude.{Some, None, nat_lt, count_by, position}
+use Rattle.std.specs.List.{position_or_len}
+use Rattle.std.proofs.lemmas.List.Recursion.{is_position_or_len}
+use Rattle.std.proofs.lemmas.List.Sums.{sum_by-cons}
+use Rattle.variable_names.specs.Finding.{sorts, how_many, further, behind, place_of, own_kind, own_kinds, first_of}
 
 -- how many marks of a sort
-pub record Counting (marks : List ℕ) (sort count at : ℕ) : Type 0 where
-  pub same : how_many sort (sorts marks) ≡ count + how_many sort (sorts (drop at marks))
-  pub low : count ≤ at
-
-module _ {marks : List ℕ} {sort : ℕ} where
-  pub count_begin : Counting marks sort 0 0
-  count_begin = record { same = omega arith; low = omega arith }
-
-  module _ {count at : ℕ} (inv : Counting marks sort count at) where
-    pub count_end : length marks ≤ at → count ≡ how_many sort (sorts marks)
-    unfolding how_many sorts
-    count_end h = sym (inv.same ∙ rw (drop_of_length-le marks h) (omega arith))
-
-    module _ (h : at < length marks) where
-      pub count_fits : length marks < 2 ^ 63 → Fits w64 (count + 1)
-      count_fits s = record { fits = omega (arith, inv.low) }
-
-      pub count_this : get_or marks at 0 % 8 ≡ sort → Counting marks sort (count + 1) (at + 1)
-      unfolding how_many sorts
-      count_this e = record {
-        same = inv.same ∙ rw (add-one at, drop-cons marks at 0 h, eq-eqb (get_or marks at 0 % 8) sort e) (omega arith);
-        low = omega (arith, inv.low);
-      }
-
-      pub count_other : (get_or marks at 0 % 8 ≡ sort → ⊥) → Counting marks sort count (at + 1)
-      unfolding how_many sorts
-      count_other e = record {
-        same = inv.same ∙ rw (add-one at, drop-cons marks at 0 h, ne_eqb (get_or marks at 0 % 8) sort e);
-        low = omega (arith, inv.low);
-      }
-
-pub ruleset count_laws = (count_begin, count_end, count_fits, count_this, count_other)
+pub how_many_counted : (sort : ℕ) (marks : List ℕ) → how_many sort (sorts marks) ≡ count_by (λ m. eqb (m % 8) sort) marks
+unfolding how_many sorts
+how_many_counted sort [] = refl
+how_many_counted sort (m ∷ ms) =
+    go (eqb (m % 8) sort) (how_many_counted sort ms) ∙ sym (sum_by-cons (λ (x : ℕ). cond (eqb (x % 8) sort) 1 0) m ms)
+  where
+    go : (t : Bool) → how_many sort (sorts ms) ≡ count_by (λ m. eqb (m % 8) sort) ms
+        → cond t (suc (how_many sort (sorts ms))) (how_many sort (sorts ms)) ≡ cond t 1 0 + count_by (λ m. eqb (m % 8) sort) ms
+    go true e = omega (arith, e)
+    go false e = omega (arith, e)
 
 -- the so-many-th mark of a sort
 pub record Passing (marks : List ℕ) (sort number left at : ℕ) : Type 0 where
@@ -56,9 +36,9 @@ module _ {marks : List ℕ} {sort number : ℕ} where
   pass_begin = record { same = omega arith }
 
   module _ {left at : ℕ} (inv : Passing marks sort number left at) where
-    pub pass_end : length marks ≤ at → at ≡ behind sort number (sorts marks)
+    pub pass_end : length marks ≡ at → length marks ≡ behind sort number (sorts marks)
     unfolding behind sorts
-    pass_end h = sym (inv.same ∙ rw (drop_of_length-le marks h) (omega arith))
+    pass_end h = let e : length marks ≤ at = omega arith in sym (inv.same ∙ rw (drop_of_length-le marks e) (omega arith))
 
     module _ (h : at < length marks) where
       pub pass_other : (get_or marks at 0 % 8 ≡ sort → ⊥) → Passing marks sort number left (at + 1)
@@ -107,12 +87,12 @@ module _ (marks : List ℕ) {clause count : ℕ} (c : count ≡ how_many 4 (sort
 pub ruleset place_laws = (place_stated, place_asked, place_none)
 
 -- words that tell variables
-kinds_long : (ms : List ℕ) → length (own_kinds ms) ≡ length ms
+pub kinds_long : (ms : List ℕ) → length (own_kinds ms) ≡ length ms
 unfolding own_kinds
 kinds_long [] = refl
 kinds_long (m ∷ ms) = ap suc (kinds_long ms)
 
-kinds_at : (ms : List ℕ) (i : ℕ) → i < length ms → get_or (own_kinds ms) i 0 ≡ cond (eqb (get_or ms i 0 % 8) 0) 0 1073741824
+kinds_at : (ms : List ℕ) (i : ℕ) → i < length ms → get_or (own_kinds ms) i 0 ≡ own_kind (get_or ms i 0)
 unfolding own_kinds
 kinds_at [] i h = absurd (omega arith)
 kinds_at (m ∷ ms) zero h = refl
@@ -136,8 +116,8 @@ module _ {marks words : List ℕ} {i : ℕ} (inv : Filling marks words i) where
     pub fill_room : i < length words
     fill_room = omega (arith, inv.long)
 
-    fill_next : (k : ℕ) → k ≡ cond (eqb (get_or marks i 0 % 8) 0) 0 1073741824 → Filling marks (set words i k) (i + 1)
-    fill_next k e =
+    pub fill_next : {k : ℕ} → k ≡ own_kind (get_or marks i 0) → Filling marks (set words i k) (i + 1)
+    fill_next {k} e =
         let a : i < length words = omega (arith, inv.long) in
         let b : i < length (own_kinds marks) = omega (arith, kinds_long marks) in
         record {
@@ -145,34 +125,26 @@ module _ {marks words : List ℕ} {i : ℕ} (inv : Filling marks words i) where
           front = rw (add-one i, take-suc-set words i k a, take-suc (own_kinds marks) i 0 b, kinds_at marks i h, inv.front, e);
         }
 
-    pub fill_variable : get_or marks i 0 % 8 ≡ 0 → Filling marks (set words i 0) (i + 1)
-    fill_variable e = fill_next 0 (rw (eq-eqb (get_or marks i 0 % 8) 0 e))
-
-    pub fill_other : (get_or marks i 0 % 8 ≡ 0 → ⊥) → Filling marks (set words i 1073741824) (i + 1)
-    fill_other e = fill_next 1073741824 (rw (ne_eqb (get_or marks i 0 % 8) 0 e))
-
-pub ruleset fill_laws = (fill_begin, fill_end, fill_room, fill_variable, fill_other)
+pub ruleset fill_laws = (fill_begin, fill_end, fill_room, fill_next)
 
 -- the first word that is the wanted
-pub record Looking (words : List ℕ) (wanted i : ℕ) : Type 0 where
-  pub same : first_of wanted words ≡ i + first_of wanted (drop i words)
+first_at : (wanted : ℕ) (ws : List ℕ) → first_of wanted ws ≡ position_or_len (λ w. eqb w wanted) ws
+unfolding first_of
+first_at wanted ws =
+    is_position_or_len (λ (l : List ℕ). first_of wanted l) (λ w. eqb w wanted) refl
+    (λ x xs. let z : suc (first_of wanted xs) ≡ 1 + first_of wanted xs = omega arith in ap (λ (k : ℕ). cond (eqb x wanted) 0 k) z) ws
 
-module _ {words : List ℕ} {wanted : ℕ} where
-  pub look_begin : Looking words wanted 0
-  look_begin = record { same = omega arith }
+pub first_found : (wanted : ℕ) (ws : List ℕ) {i : ℕ} → Some i ≡ position (λ w. eqb w wanted) ws → i ≡ first_of wanted ws
+first_found wanted ws {i} e = rw (first_at wanted ws) (go (nat_lt (position_or_len (λ w. eqb w wanted) ws) (length ws)) e)
+  where
+    go : (t : Bool) → Some i ≡ cond t (Some (position_or_len (λ w. eqb w wanted) ws)) None → i ≡ position_or_len (λ w. eqb w wanted) ws
+    go true e = cc
+    go false e = cc
 
-  module _ {i : ℕ} (inv : Looking words wanted i) where
-    pub look_end : length words ≤ i → i ≡ first_of wanted words
-    unfolding first_of
-    look_end h = sym (inv.same ∙ rw (drop_of_length-le words h) (omega arith))
-
-    module _ (h : i < length words) where
-      pub look_found : get_or words i 0 ≡ wanted → i ≡ first_of wanted words
-      unfolding first_of
-      look_found e = sym (inv.same ∙ rw (drop-cons words i 0 h, eq-eqb (get_or words i 0) wanted e) (omega arith))
-
-      pub look_on : (get_or words i 0 ≡ wanted → ⊥) → Looking words wanted (i + 1)
-      unfolding first_of
-      look_on e = record { same = inv.same ∙ rw (add-one i, drop-cons words i 0 h, ne_eqb (get_or words i 0) wanted e) (omega arith) }
-
-pub ruleset look_laws = (look_begin, look_end, look_found, look_on)
+pub first_nowhere : (wanted : ℕ) (ws : List ℕ) → None ≡ position (λ w. eqb w wanted) ws → length ws ≤ first_of wanted ws
+first_nowhere wanted ws e = rw (first_at wanted ws) (go (nat_lt (position_or_len (λ w. eqb w wanted) ws) (length ws)) refl e)
+  where
+    go : (t : Bool) → nat_lt (position_or_len (λ w. eqb w wanted) ws) (length ws) ≡ t
+        → None ≡ cond t (Some (position_or_len (λ w. eqb w wanted) ws)) None → length ws ≤ position_or_len (λ w. eqb w wanted) ws
+    go true b e = cc
+    go false b e = ltb-false (position_or_len (λ w. eqb w wanted) ws) (length ws) b

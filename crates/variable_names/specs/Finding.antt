@@ -30,10 +30,13 @@ unfoldable pub place_of : ℕ → List ℕ → ℕ
 place_of clause ss =
     cond (ltb clause (how_many 4 ss)) (behind 4 clause ss) (cond (eqb clause (how_many 4 ss)) (behind 5 0 ss) (length ss))
 
--- words that tell variables from all others
+-- a word that tells whether a mark is a variable's, and words of marks
+abbrev pub own_kind : ℕ → ℕ
+own_kind m = cond (eqb (m % 8) 0) 0 1073741824
+
 unfoldable pub own_kinds : List ℕ → List ℕ
 own_kinds [] = []
-own_kinds (m ∷ ms) = cond (eqb (m % 8) 0) 0 1073741824 ∷ own_kinds ms
+own_kinds (m ∷ ms) = own_kind m ∷ own_kinds ms
 
 unfoldable pub first_of : ℕ → List ℕ → ℕ
 first_of wanted [] = 0

@@ -2,40 +2,28 @@
 ghost use Rattle.std.specs.Prelude.{◌≡◌};
 ghost use Rattle.variable_names.specs.Finding.{sorts, how_many, behind, place_of};
 
+#[tactic(auto, using(crate::proofs::Walks::how_many_counted))]
 fn how_many(marks: &[u32], sort: u32) -> usize
     ensures { result ≡ how_many sort (sorts marks.now) }
 {
-    let mut count = 0;
-    let mut at = 0;
-    while at < marks.len() {
-        if marks[at] % 8 == sort {
-            count += 1;
-            at += 1;
-            continue;
-        }
-        at += 1;
-    }
-    count
+    marks.iter().filter(|mark| **mark % 8 == sort).count()
 }
 
-// The place behind the so-many-th mark of a sort; the end where there are not so many.
+// The place behind the so-many-th mark of a sort; the end where there are not so many, from which no items follow.
 fn behind(marks: &[u32], sort: u32, number: usize) -> usize
     ensures { result ≡ behind sort number (sorts marks.now) }
 {
     let mut left = number;
-    let mut at = 0;
-    while at < marks.len() {
-        if marks[at] % 8 != sort {
-            at += 1;
+    for (at, mark) in marks.iter().enumerate() {
+        if *mark % 8 != sort {
             continue;
         }
-        at += 1;
         if left == 0 {
-            return at;
+            return at + 1;
         }
         left -= 1;
     }
-    at
+    marks.len()
 }
 
 // Where the items of the literals of a clause begin, by its number in the file: the question is last.

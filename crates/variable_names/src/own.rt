@@ -1,46 +1,39 @@
 // The name of a variable of a clause.
-ghost use Rattle.std.specs.Prelude.{◌≡◌, ◌≤◌, ◌<◌, length};
+ghost use Rattle.std.specs.Prelude.{◌≡◌, ◌≤◌, ◌<◌, ◌==◌, length, position};
 ghost use Rattle.clausetext.specs.Texts.{Permitted};
 ghost use Rattle.tptp.specs.Body.{Held};
 ghost use Rattle.variable_names.specs.Named.{IsVariable};
-ghost use Rattle.variable_names.specs.Finding.{own_kinds, first_of, Among, IsSaid};
+ghost use Rattle.variable_names.specs.Finding.{own_kind, own_kinds, Among, IsSaid};
 
 use crate::find::place;
-use clausetext::judge::{Verdict, judge_text};
+use clausetext::judge::judge_text;
 use names::table::number;
 use naming::lookup::name;
 use tptp::last::seek;
 use tptp::sketch::gather;
+
+// A word that tells whether a mark is a variable's.
+fn own_kind(mark: u32) -> u32
+    ensures { result ≡ own_kind mark }
+{
+    if mark % 8 == 0 { 0 } else { 0x40000000 }
+}
 
 // Words that tell variables from all others.
 fn put_kinds(marks: &[u32], words: &mut [u32])
     requires { length marks.now ≡ length words.old }
     ensures { words.new ≡ own_kinds marks.now }
 {
-    let mut i = 0;
-    while i < marks.len() {
-        if marks[i] % 8 == 0 {
-            words[i] = 0;
-            i += 1;
-            continue;
-        }
-        words[i] = 0x40000000;
-        i += 1;
+    for (i, mark) in marks.iter().enumerate() {
+        words[i] = own_kind(*mark);
     }
 }
 
-// Where a word stands first; the end where it is not there.
-fn first(words: &[u32], wanted: u32) -> usize
-    ensures { result ≡ first_of wanted words.now }
+// Where a word stands first.
+fn first(words: &[u32], wanted: u32) -> Option<usize>
+    ensures { result ≡ position (λ w. w == wanted) words.now }
 {
-    let mut i = 0;
-    while i < words.len() {
-        if words[i] == wanted {
-            return i;
-        }
-        i += 1;
-    }
-    i
+    words.iter().position(|w| *w == wanted)
 }
 
 fn among<'a>(
@@ -57,8 +50,10 @@ fn among<'a>(
     if 16 < number(text, places, words, 0, 16) {
         return &text[0..0];
     }
-    let i = first(words, wanted as u32);
-    name(text, places, i)
+    match first(words, wanted as u32) {
+        Some(i) => name(text, places, i),
+        None => &text[0..0],
+    }
 }
 
 // The name of the so-many-th variable of items.
@@ -104,9 +99,8 @@ fn in_text(text: &[u8], clause: usize, wanted: usize) -> &[u8]
 pub fn variable(text: &[u8], clause: usize, number: usize) -> &[u8]
     ensures { IsVariable text.entry clause number result }
 {
-    let verdict = judge_text(text);
-    match verdict {
-        Verdict::Wrong(_) => &text[0..0],
-        Verdict::Fine(_, _) => in_text(text, clause, number),
+    match judge_text(text) {
+        Err(_) => &text[0..0],
+        Ok(_) => in_text(text, clause, number),
     }
 }

@@ -4,9 +4,9 @@ use mathlib.Core.List.{List, [], ◌∷◌}
 use mathlib.Core.Path.{◌≡◌, refl}
 use Prim.Native.Nat.{ℕ}
 use Rattle.words.specs.Steps.{step_of}
-use Rattle.leaves.specs.Leaves.{opens, other, hung, started, open_after, hung_under, above, ancestor}
+use Rattle.leaves.specs.Leaves.{opens, other, hung, started, open_after, hung_under, above, ancestor, leaf_of}
 use Rattle.verdicts.specs.Verdicts.{entered_leaf, partner, fitting}
-use Rattle.leaves.specs.declared.leaf.Leaf.TheVariants.{Open, Nothing}
+use Rattle.std.specs.Prelude.{None}
 
 unfoldable opened : Unit {0}
 unfolding step_of opens other hung started open_after hung_under above ancestor entered_leaf partner fitting
@@ -20,7 +20,7 @@ steps = 0x40000000 ∷ 0x40000001 ∷ []
 
 -- what a step closes its leaf against: an ancestor, a clause's literal, or nothing where there is none
 partners : partner sizes 1 steps 1 (step_of 1) ∷ partner sizes 1 steps 1 (step_of 2) ∷ partner sizes 1 steps 1 (step_of 0x40000200) ∷ partner sizes 1 steps 1 (step_of 0x40000400) ∷ []
-    ≡ Open 0 1 0 ∷ Nothing ∷ Open 2 0 1 ∷ Nothing ∷ []
+    ≡ leaf_of 0 1 0 ∷ None ∷ leaf_of 2 0 1 ∷ None ∷ []
 unfolding opened
 partners = refl
 

@@ -2,12 +2,11 @@
 use mathlib.Core.Bool.{Bool, true, false}
 use mathlib.Core.List.{List, ◌++◌}
 use mathlib.Core.Path.{◌≡◌, refl, ◌∙◌}
+use mathlib.Core.Logic.{◌⊎◌, inl, inr}
 use Prim.Native.Nat.{ℕ, zero, suc, ◌+◌, ◌≤◌, ◌<◌}
 use native.Mathlib.Numerals.{add-one}
 use borrow.Author.Tests.{eq-eqb, ne_eqb, lt-ltb, le-ltb}
-use lib.Dec.{eqb}
 use lib.ListN.{length, take, drop, get_or}
-use Rattle.words.specs.Fields.{sign_of, symbol_of, arity_of}
 use Rattle.words.specs.Steps.{step_of}
 use Rattle.words.specs.declared.Step.{Step}
 use Rattle.words.specs.declared.Step.TheVariants.{Reduction, Extension, Restart, Malformed}
@@ -20,13 +19,13 @@ use Rattle.assistant.specs.Place.{position_of, figure_text, excerpt_text}
 use Rattle.written_proofs.specs.Steps.{names_of, steps_text}
 use Rattle.written_proofs.specs.declared.read.Awaited.{Awaited}
 use Rattle.written_proofs.specs.declared.read.Awaited.TheVariants.{Step as step, Height, Clause, Literal}
-use Rattle.leaves.specs.Leaves.{leftmost, ancestor}
+use Rattle.leaves.specs.Leaves.{leftmost, ancestor, leaf_of}
 use Rattle.leaves.specs.Shown.{Source, sizes_in, question_in, literal_word_in, literal_shown, name_cut}
 use Rattle.leaves.specs.Bound.{copy_number, told_text}
 use Rattle.verdicts.specs.Verdicts.{cost_text, accepted_text, too_long_text, hung_text, clause_shown, of_text, there_text, leaf_text, entered_leaf, partner, partner_label, fault_text, fitting, pair_text, against_text, why_text, reason_text, pair_shown, step_shown, head_text, wrong_step, open_text, refused_with, refused_text}
 use Rattle.verdicts.specs.Unreadable.{awaited_text, head_text as whereText, unreadable_text}
 use Rattle.leaves.specs.declared.leaf.Leaf.{Leaf}
-use Rattle.leaves.specs.declared.leaf.Leaf.TheVariants.{Open, Nothing}
+use Rattle.std.specs.Prelude.{Option, Some, None}
 use Rattle.leaves.proofs.Showing.{no_bytes, sized_whole}
 
 module _ {o₀ o₁ : List ℕ} {n₀ n₁ : ℕ} where
@@ -56,7 +55,7 @@ module _ {o₀ o₁ : List ℕ} {n₀ n₁ : ℕ} where
         unfolding fault_text
         fault_13 c p = rw (ne_eqb status 12 a, ne_eqb status 14 b, ne_eqb status 20 c) p
 
-    pub reason_13 : (file : List ℕ) (limit : ℕ) (leaf to : Leaf) → status ≡ 13 → Put o₀ n₀ (why_text file limit leaf to) o₁ n₁ → Put o₀ n₀ (reason_text status file limit leaf to) o₁ n₁
+    pub reason_13 : (file : List ℕ) (limit : ℕ) (leaf to : Option Leaf) → status ≡ 13 → Put o₀ n₀ (why_text file limit leaf to) o₁ n₁ → Put o₀ n₀ (reason_text status file limit leaf to) o₁ n₁
     unfolding reason_text
     reason_13 file limit leaf to a p = rw (eq-eqb status 13 a) p
 
@@ -65,22 +64,22 @@ module _ {o₀ o₁ : List ℕ} {n₀ n₁ : ℕ} where
   unfolding pair_text
   pair_apart limit e p = rw e p
 
-  module _ (file : List ℕ) (limit clause literal : ℕ) {to : Leaf} where
-    pub against_none : to ≡ Nothing → Put o₀ n₀ (bytes "There is no such clause, literal or ancestor.\n") o₁ n₁ → Put o₀ n₀ (against_text file limit clause literal to) o₁ n₁
+  module _ (file : List ℕ) (limit clause literal : ℕ) {to : Option Leaf} where
+    pub against_none : to ≡ None → Put o₀ n₀ (bytes "There is no such clause, literal or ancestor.\n") o₁ n₁ → Put o₀ n₀ (against_text file limit clause literal to) o₁ n₁
     unfolding against_text
     against_none e p = rw e p
 
-    pub against_open : {number i j : ℕ} → to ≡ Open number i j → {v : ℕ} → v ≡ literal_word_in file clause literal → {w : ℕ} → w ≡ literal_word_in file i j
+    pub against_open : {l : Leaf} → to ≡ Some l → {v : ℕ} → v ≡ literal_word_in file clause literal → {w : ℕ} → w ≡ literal_word_in file l.clause l.literal
         → {b : Bool} → b ≡ fitting v w → Put o₀ n₀ (pair_text limit b) o₁ n₁ → Put o₀ n₀ (against_text file limit clause literal to) o₁ n₁
     unfolding against_text
     against_open e ev ew eb p = rw (e, ← ev, ← ew, ← eb) p
 
-  module _ (file : List ℕ) (limit : ℕ) {leaf : Leaf} (to : Leaf) where
-    pub why_open : {number clause literal : ℕ} → leaf ≡ Open number clause literal → Put o₀ n₀ (against_text file limit clause literal to) o₁ n₁ → Put o₀ n₀ (why_text file limit leaf to) o₁ n₁
+  module _ (file : List ℕ) (limit : ℕ) {leaf : Option Leaf} (to : Option Leaf) where
+    pub why_open : {l : Leaf} → leaf ≡ Some l → Put o₀ n₀ (against_text file limit l.clause l.literal to) o₁ n₁ → Put o₀ n₀ (why_text file limit leaf to) o₁ n₁
     unfolding why_text
     why_open e p = rw e p
 
-    pub why_none : leaf ≡ Nothing → Put o₀ n₀ (bytes "All leaves are closed already.\n") o₁ n₁ → Put o₀ n₀ (why_text file limit leaf to) o₁ n₁
+    pub why_none : leaf ≡ None → Put o₀ n₀ (bytes "All leaves are closed already.\n") o₁ n₁ → Put o₀ n₀ (why_text file limit leaf to) o₁ n₁
     unfolding why_text
     why_none e p = rw e p
 
@@ -90,7 +89,7 @@ module _ {o₀ o₁ : List ℕ} {n₀ n₁ : ℕ} where
   there_is S steps number clause literal e p = rw (← e) p
 
   -- the label of what a step closes its leaf against
-  module _ (S : Source) (steps : List ℕ) (w : ℕ) (leaf : Leaf) {s : Step} (e : s ≡ step_of w) where
+  module _ (S : Source) (steps : List ℕ) (w : ℕ) (leaf : Option Leaf) {s : Step} (e : s ≡ step_of w) where
     pub label_reduction : {h : ℕ} → s ≡ Reduction h → Put o₀ n₀ (leaf_text S steps (bytes "ancestor: ") leaf) o₁ n₁ → Put o₀ n₀ (leaf_text S steps (partner_label (step_of w)) leaf) o₁ n₁
     unfolding partner_label
     label_reduction k p = rw (← e, k) p
@@ -99,13 +98,10 @@ module _ {o₀ o₁ : List ℕ} {n₀ n₁ : ℕ} where
     unfolding partner_label
     label_extension k p = rw (← e, k) p
 
-    pub label_restart : s ≡ Restart → Put o₀ n₀ (leaf_text S steps (bytes "literal: ") leaf) o₁ n₁ → Put o₀ n₀ (leaf_text S steps (partner_label (step_of w)) leaf) o₁ n₁
+    pub label_other : (s ≡ Restart) ⊎ (s ≡ Malformed) → Put o₀ n₀ (leaf_text S steps (bytes "literal: ") leaf) o₁ n₁ → Put o₀ n₀ (leaf_text S steps (partner_label (step_of w)) leaf) o₁ n₁
     unfolding partner_label
-    label_restart k p = rw (← e, k) p
-
-    pub label_malformed : s ≡ Malformed → Put o₀ n₀ (leaf_text S steps (bytes "literal: ") leaf) o₁ n₁ → Put o₀ n₀ (leaf_text S steps (partner_label (step_of w)) leaf) o₁ n₁
-    unfolding partner_label
-    label_malformed k p = rw (← e, k) p
+    label_other (inl k) p = rw (← e, k) p
+    label_other (inr k) p = rw (← e, k) p
 
   -- what was awaited
   module _ {a : Awaited} where
@@ -133,13 +129,13 @@ module _ {o₀ o₁ : List ℕ} {n₀ n₁ : ℕ} where
     refused_is h s p = rw (sized_whole S.file h s) at p
 
     module _ (sizes : List ℕ) {question : ℕ} (eq : question ≡ question_in S.file) where
-      pub refused_open : status ≡ 15 → {leaf : Leaf} → leaf ≡ leftmost sizes question steps done → Put o₀ n₀ (open_text S steps leaf done) o₁ n₁
+      pub refused_open : status ≡ 15 → {leaf : Option Leaf} → leaf ≡ leftmost sizes question steps done → Put o₀ n₀ (open_text S steps leaf done) o₁ n₁
           → Put o₀ n₀ (refused_with S sizes (question_in S.file) steps limit status done) o₁ n₁
       unfolding refused_with
       refused_open e el p = rw (← eq, eq-eqb status 15 e, ← el) p
 
-      pub refused_step : (status ≡ 15 → ⊥) → {leaf : Leaf} → leaf ≡ leftmost sizes question steps done → {w : ℕ} → w ≡ get_or steps done 0
-          → {to : Leaf} → to ≡ partner sizes question steps done (step_of w) → Put o₀ n₀ (wrong_step S steps limit status done (step_of w) leaf to) o₁ n₁
+      pub refused_step : (status ≡ 15 → ⊥) → {leaf : Option Leaf} → leaf ≡ leftmost sizes question steps done → {w : ℕ} → w ≡ get_or steps done 0
+          → {to : Option Leaf} → to ≡ partner sizes question steps done (step_of w) → Put o₀ n₀ (wrong_step S steps limit status done (step_of w) leaf to) o₁ n₁
           → Put o₀ n₀ (refused_with S sizes (question_in S.file) steps limit status done) o₁ n₁
       unfolding refused_with
       refused_step e el ew et p = rw (← eq, ne_eqb status 15 e, ← ew, ← el, ← et) p
@@ -165,7 +161,7 @@ module _ {o₀ o₁ : List ℕ} {n₀ n₁ : ℕ} where
     hung_step zero n p q = absurd (n refl)
     hung_step (suc number) n p q = joined p q
 
-    pub leaf_none : (S : Source) (steps label : List ℕ) {leaf : Leaf} → leaf ≡ Nothing → Put o₀ n₀ label o₁ n₁ → Put o₁ n₁ (bytes "there is none\n") o₂ n₂
+    pub leaf_none : (S : Source) (steps label : List ℕ) {leaf : Option Leaf} → leaf ≡ None → Put o₀ n₀ label o₁ n₁ → Put o₁ n₁ (bytes "there is none\n") o₂ n₂
         → Put o₀ n₀ (leaf_text S steps label leaf) o₂ n₂
     unfolding leaf_text
     leaf_none S steps label e p q = rw e (joined p q)
@@ -186,7 +182,7 @@ module _ {o₀ o₁ : List ℕ} {n₀ n₁ : ℕ} where
       unfolding clause_shown
       clause_shown_is S clause p q r = joined p (joined q r)
 
-      pub open_text_is : (S : Source) (steps : List ℕ) (leaf : Leaf) (done : ℕ) → Put o₀ n₀ (bytes "Not accepted: leaves are open after the last step, " ++ decimal_text done) o₁ n₁
+      pub open_text_is : (S : Source) (steps : List ℕ) (leaf : Option Leaf) (done : ℕ) → Put o₀ n₀ (bytes "Not accepted: leaves are open after the last step, " ++ decimal_text done) o₁ n₁
           → Put o₁ n₁ (bytes "; the leftmost:\n") o₂ n₂ → Put o₂ n₂ (leaf_text S steps (bytes "leaf: ") leaf) o₃ n₃ → Put o₀ n₀ (open_text S steps leaf done) o₃ n₃
       unfolding open_text
       open_text_is S steps leaf done p q r = joined p (joined q r)
@@ -213,15 +209,15 @@ module _ {o₀ o₁ : List ℕ} {n₀ n₁ : ℕ} where
       unfolding head_text
       head_is text index steps status done p q r = joined p (joined q r)
 
-      pub wrong_step_is : (S : Source) (steps : List ℕ) (limit status done : ℕ) (s : Step) (leaf to : Leaf) → Put o₀ n₀ (head_text S.text S.index steps status done) o₁ n₁
+      pub wrong_step_is : (S : Source) (steps : List ℕ) (limit status done : ℕ) (s : Step) (leaf to : Option Leaf) → Put o₀ n₀ (head_text S.text S.index steps status done) o₁ n₁
           → Put o₁ n₁ (pair_shown S steps s leaf to) o₂ n₂ → Put o₂ n₂ (reason_text status S.file limit leaf to) o₃ n₃ → Put o₀ n₀ (wrong_step S steps limit status done s leaf to) o₃ n₃
       unfolding wrong_step
       wrong_step_is S steps limit status done s leaf to p q r = joined p (joined q r)
 
       module _ {o₄ : List ℕ} {n₄ : ℕ} where
-        pub leaf_open : (S : Source) (steps label : List ℕ) {leaf : Leaf} {number clause literal : ℕ} → leaf ≡ Open number clause literal → Put o₀ n₀ label o₁ n₁
-            → Put o₁ n₁ (literal_shown S.text S.index S.file clause literal) o₂ n₂ → Put o₂ n₂ (of_text S number clause literal) o₃ n₃
-            → Put o₃ n₃ (there_text S steps number clause literal) o₄ n₄ → Put o₀ n₀ (leaf_text S steps label leaf) o₄ n₄
+        pub leaf_open : (S : Source) (steps label : List ℕ) {leaf : Option Leaf} {l : Leaf} → leaf ≡ Some l → Put o₀ n₀ label o₁ n₁
+            → Put o₁ n₁ (literal_shown S.text S.index S.file l.clause l.literal) o₂ n₂ → Put o₂ n₂ (of_text S l.number l.clause l.literal) o₃ n₃
+            → Put o₃ n₃ (there_text S steps l.number l.clause l.literal) o₄ n₄ → Put o₀ n₀ (leaf_text S steps label leaf) o₄ n₄
         unfolding leaf_text
         leaf_open S steps label e p q r s = rw e (joined p (joined q (joined r s)))
 
@@ -231,27 +227,27 @@ module _ {o₀ o₁ : List ℕ} {n₀ n₁ : ℕ} where
     unfolding step_shown
     step_shown_is text index steps done ek er eo ep p q = joined p (rw (eo, er, ek, ep) at q)
 
-    pub pair_lines_is : (S : Source) (steps : List ℕ) (s : Step) (leaf to : Leaf) → Put o₀ n₀ (leaf_text S steps (bytes "leaf: ") leaf) o₁ n₁ → Put o₁ n₁ (leaf_text S steps (partner_label s) to) o₂ n₂
+    pub pair_lines_is : (S : Source) (steps : List ℕ) (s : Step) (leaf to : Option Leaf) → Put o₀ n₀ (leaf_text S steps (bytes "leaf: ") leaf) o₁ n₁ → Put o₁ n₁ (leaf_text S steps (partner_label s) to) o₂ n₂
         → Put o₀ n₀ (pair_shown S steps s leaf to) o₂ n₂
     unfolding pair_shown
     pair_lines_is S steps s leaf to p q = joined p q
 
-pub reason_none : (out : List ℕ) (at : ℕ) {status : ℕ} (file : List ℕ) (limit : ℕ) (leaf to : Leaf) → (status ≡ 13 → ⊥) → Put out at (reason_text status file limit leaf to) out at
+pub reason_none : (out : List ℕ) (at : ℕ) {status : ℕ} (file : List ℕ) (limit : ℕ) (leaf to : Option Leaf) → (status ≡ 13 → ⊥) → Put out at (reason_text status file limit leaf to) out at
 unfolding reason_text
 reason_none out at {status} file limit leaf to e = rw (ne_eqb status 13 e) (no_bytes out at)
 
 -- what a step closes its leaf against
 module _ (sizes : List ℕ) (number clause literal : ℕ) {size : ℕ} (e : size ≡ get_or sizes clause 0) where
-  pub entered_open : literal < size → Open number clause literal ≡ entered_leaf sizes number clause literal
+  pub entered_open : literal < size → leaf_of number clause literal ≡ entered_leaf sizes number clause literal
   unfolding entered_leaf
   entered_open h = rw (← e, lt-ltb literal size h)
 
-  pub entered_none : size ≤ literal → Nothing ≡ entered_leaf sizes number clause literal
+  pub entered_none : size ≤ literal → None ≡ entered_leaf sizes number clause literal
   unfolding entered_leaf
   entered_none h = rw (← e, le-ltb literal size h)
 
-module _ (sizes : List ℕ) (question : ℕ) (steps : List ℕ) (done w : ℕ) {s : Step} (e : s ≡ step_of w) {r : Leaf} where
-  pub partner_reduction : {height : ℕ} → s ≡ Reduction height → {leaf : Leaf} → leaf ≡ leftmost sizes question steps done → r ≡ ancestor sizes question steps height leaf
+module _ (sizes : List ℕ) (question : ℕ) (steps : List ℕ) (done w : ℕ) {s : Step} (e : s ≡ step_of w) {r : Option Leaf} where
+  pub partner_reduction : {height : ℕ} → s ≡ Reduction height → {leaf : Option Leaf} → leaf ≡ leftmost sizes question steps done → r ≡ ancestor sizes question steps height leaf
       → r ≡ partner sizes question steps done (step_of w)
   unfolding partner
   partner_reduction k el er = er ∙ rw (← e, k, ← el)
@@ -259,28 +255,6 @@ module _ (sizes : List ℕ) (question : ℕ) (steps : List ℕ) (done w : ℕ) {
   pub partner_extension : {i j : ℕ} → s ≡ Extension i j → r ≡ entered_leaf sizes (done + 1) i j → r ≡ partner sizes question steps done (step_of w)
   unfolding partner
   partner_extension k er = er ∙ rw (← e, k, add-one)
-
-pub partner_restart : (sizes : List ℕ) (question : ℕ) (steps : List ℕ) (done w : ℕ) {s : Step} → s ≡ step_of w → s ≡ Restart → Nothing ≡ partner sizes question steps done (step_of w)
-unfolding partner
-partner_restart sizes question steps done w e k = rw (← e, k)
-
-pub partner_malformed : (sizes : List ℕ) (question : ℕ) (steps : List ℕ) (done w : ℕ) {s : Step} → s ≡ step_of w → s ≡ Malformed → Nothing ≡ partner sizes question steps done (step_of w)
-unfolding partner
-partner_malformed sizes question steps done w e k = rw (← e, k)
-
-module _ (v w : ℕ) {sv sw : ℕ} (ev : sv ≡ sign_of v) (ew : sw ≡ sign_of w) where
-  pub fit_sign : sv ≡ sw → false ≡ fitting v w
-  unfolding fitting
-  fit_sign e = rw (← ev, ← ew, eq-eqb sv sw e)
-
-  module _ (n : sv ≡ sw → ⊥) {pv pw : ℕ} (fv : pv ≡ symbol_of v) (fw : pw ≡ symbol_of w) where
-    pub fit_symbol : (pv ≡ pw → ⊥) → false ≡ fitting v w
-    unfolding fitting
-    fit_symbol m = rw (← ev, ← ew, ne_eqb sv sw n, ← fv, ← fw, ne_eqb pv pw m)
-
-    pub fit_arity : pv ≡ pw → {av aw : ℕ} → av ≡ arity_of v → aw ≡ arity_of w → eqb av aw ≡ fitting v w
-    unfolding fitting
-    fit_arity m gv gw = rw (← ev, ← ew, ne_eqb sv sw n, ← fv, ← fw, eq-eqb pv pw m, ← gv, ← gw)
 
 pub ruleset hung_text_laws = (hung_start, hung_step)
 
@@ -294,18 +268,10 @@ pub ruleset against_laws = (against_none, against_open)
 
 pub ruleset why_laws = (why_open, why_none)
 
-pub ruleset label_laws = (label_reduction, label_extension, label_restart, label_malformed)
-
 pub ruleset awaited_laws = (awaited_step, awaited_height, awaited_clause, awaited_literal)
-
-pub ruleset refused_laws = (refused_open, refused_step)
 
 pub ruleset accepted_laws = (definite_is, open_is)
 
-pub ruleset leaf_laws = (leaf_none, leaf_open)
-
 pub ruleset entered_laws = (entered_open, entered_none)
 
-pub ruleset partner_laws = (partner_reduction, partner_extension, partner_restart, partner_malformed)
-
-pub ruleset fit_laws = (fit_sign, fit_symbol, fit_arity)
+pub ruleset partner_laws = (partner_reduction, partner_extension)

@@ -1,6 +1,6 @@
 -- What is said of a partner's proof: accepted; or the first step that is wrong, with its leaf and the literal that it is closed against, each as its
 -- clause has it, by the clause's name and number, and under what the steps before have bound.
-use Rattle.std.specs.Prelude.{Bool, true, false, cond, not, ◌&&◌, List, [], ◌++◌, ℕ, zero, suc, ◌+◌, eqb, ltb, take, drop, get_or}
+use Rattle.std.specs.Prelude.{Bool, true, false, cond, not, ◌&&◌, List, [], ◌++◌, ℕ, zero, suc, ◌+◌, eqb, ltb, take, drop, get_or, Option, Some, None}
 use Rattle.words.specs.Fields.{sign_of, symbol_of, arity_of}
 use Rattle.words.specs.Steps.{step_of}
 use Rattle.words.specs.declared.Step.{Step}
@@ -9,11 +9,10 @@ use Rattle.text.specs.Quoted.{bytes}
 use Rattle.text.specs.Digits.{decimal_text}
 use Rattle.naming.specs.Index.{clause_places}
 use Rattle.written_proofs.specs.Steps.{names_of, steps_text}
-use Rattle.leaves.specs.Leaves.{leftmost, ancestor}
+use Rattle.leaves.specs.Leaves.{leftmost, ancestor, leaf_of}
 use Rattle.leaves.specs.Shown.{Source, sizes_in, question_in, literal_word_in, literal_shown, name_cut}
 use Rattle.leaves.specs.Bound.{copy_number, told_text}
 use Rattle.leaves.specs.declared.leaf.Leaf.{Leaf}
-use Rattle.leaves.specs.declared.leaf.Leaf.TheVariants.{Open, Nothing}
 
 -- accepted, in so many steps: an answer is definite if it has a single disjunct
 unfoldable pub cost_text : ℕ → List ℕ
@@ -44,21 +43,23 @@ of_text S number clause literal = (bytes ", literal " ++ decimal_text literal) +
 unfoldable pub there_text : Source → List ℕ → ℕ → ℕ → ℕ → List ℕ
 there_text S steps number clause literal = told_text S (bytes "  there: ") (bytes "\n") (copy_number steps number) clause literal
 
-unfoldable pub leaf_text : Source → List ℕ → List ℕ → Leaf → List ℕ
-leaf_text S steps label (Open number clause literal) =
-    label ++ (literal_shown S.text S.index S.file clause literal ++ (of_text S number clause literal ++ there_text S steps number clause literal))
-leaf_text S steps label Nothing = label ++ bytes "there is none\n"
+unfoldable pub leaf_text : Source → List ℕ → List ℕ → Option Leaf → List ℕ
+leaf_text S steps label (Some leaf) =
+    label
+    ++ (literal_shown S.text S.index S.file leaf.clause leaf.literal
+    ++ (of_text S leaf.number leaf.clause leaf.literal ++ there_text S steps leaf.number leaf.clause leaf.literal))
+leaf_text S steps label None = label ++ bytes "there is none\n"
 
 -- a literal of a clause, if it has so many
-unfoldable pub entered_leaf : List ℕ → ℕ → ℕ → ℕ → Leaf
-entered_leaf sizes number clause literal = cond (ltb literal (get_or sizes clause 0)) (Open number clause literal) Nothing
+unfoldable pub entered_leaf : List ℕ → ℕ → ℕ → ℕ → Option Leaf
+entered_leaf sizes number clause literal = cond (ltb literal (get_or sizes clause 0)) (leaf_of number clause literal) None
 
 -- what a step closes its leaf against: an ancestor, or the entered literal of the copy that it hangs
-unfoldable pub partner : List ℕ → ℕ → List ℕ → ℕ → Step → Leaf
+unfoldable pub partner : List ℕ → ℕ → List ℕ → ℕ → Step → Option Leaf
 partner sizes question steps done (Reduction height) = ancestor sizes question steps height (leftmost sizes question steps done)
 partner sizes question steps done (Extension i j) = entered_leaf sizes (suc done) i j
-partner sizes question steps done Restart = Nothing
-partner sizes question steps done Malformed = Nothing
+partner sizes question steps done Restart = None
+partner sizes question steps done Malformed = None
 
 unfoldable pub partner_label : Step → List ℕ
 partner_label (Reduction height) = bytes "ancestor: "
@@ -82,20 +83,20 @@ unfoldable pub pair_text : ℕ → Bool → List ℕ
 pair_text limit false = bytes "The two literals do not fit: a pair has opposite signs, the same predicate and as many arguments.\n"
 pair_text limit true = (bytes "The limit is reached: " ++ decimal_text limit) ++ bytes " clauses may be used.\n"
 
-unfoldable pub against_text : List ℕ → ℕ → ℕ → ℕ → Leaf → List ℕ
-against_text file limit clause literal (Open number i j) = pair_text limit (fitting (literal_word_in file clause literal) (literal_word_in file i j))
-against_text file limit clause literal Nothing = bytes "There is no such clause, literal or ancestor.\n"
+unfoldable pub against_text : List ℕ → ℕ → ℕ → ℕ → Option Leaf → List ℕ
+against_text file limit clause literal (Some to) = pair_text limit (fitting (literal_word_in file clause literal) (literal_word_in file to.clause to.literal))
+against_text file limit clause literal None = bytes "There is no such clause, literal or ancestor.\n"
 
-unfoldable pub why_text : List ℕ → ℕ → Leaf → Leaf → List ℕ
-why_text file limit (Open number clause literal) to = against_text file limit clause literal to
-why_text file limit Nothing to = bytes "All leaves are closed already.\n"
+unfoldable pub why_text : List ℕ → ℕ → Option Leaf → Option Leaf → List ℕ
+why_text file limit (Some leaf) to = against_text file limit leaf.clause leaf.literal to
+why_text file limit None to = bytes "All leaves are closed already.\n"
 
 -- only for a step that is not possible
-unfoldable pub reason_text : ℕ → List ℕ → ℕ → Leaf → Leaf → List ℕ
+unfoldable pub reason_text : ℕ → List ℕ → ℕ → Option Leaf → Option Leaf → List ℕ
 reason_text status file limit leaf to = cond (eqb status 13) (why_text file limit leaf to) []
 
 -- a step's leaf and the literal that it is closed against
-unfoldable pub pair_shown : Source → List ℕ → Step → Leaf → Leaf → List ℕ
+unfoldable pub pair_shown : Source → List ℕ → Step → Option Leaf → Option Leaf → List ℕ
 pair_shown S steps s leaf to = leaf_text S steps (bytes "leaf: ") leaf ++ leaf_text S steps (partner_label s) to
 
 -- the step itself, as a readable proof has it
@@ -106,11 +107,11 @@ unfoldable pub head_text : List ℕ → List ℕ → List ℕ → ℕ → ℕ �
 head_text text index steps status done =
     (bytes "Not accepted: step " ++ decimal_text (done + 1)) ++ (fault_text status ++ step_shown text index steps done)
 
-unfoldable pub wrong_step : Source → List ℕ → ℕ → ℕ → ℕ → Step → Leaf → Leaf → List ℕ
+unfoldable pub wrong_step : Source → List ℕ → ℕ → ℕ → ℕ → Step → Option Leaf → Option Leaf → List ℕ
 wrong_step S steps limit status done s leaf to = head_text S.text S.index steps status done ++ (pair_shown S steps s leaf to ++ reason_text status S.file limit leaf to)
 
 -- 15: the steps end with leaves open
-unfoldable pub open_text : Source → List ℕ → Leaf → ℕ → List ℕ
+unfoldable pub open_text : Source → List ℕ → Option Leaf → ℕ → List ℕ
 open_text S steps leaf done =
     (bytes "Not accepted: leaves are open after the last step, " ++ decimal_text done)
     ++ (bytes "; the leftmost:\n" ++ leaf_text S steps (bytes "leaf: ") leaf)

@@ -48,11 +48,10 @@ pub fn wrong(
 ) -> usize
     ensures { Put out.old from (unreadable_text name.now said.now at awaited) out.new result }
 {
-    let before = part::front_bytes(said, at);
-    let rest = place::after(said, at);
+    let before = part::front(said, at);
+    let rest = part::rest(said, at);
     let p = place::locate(before);
-    let column = p.column;
     let a = head(name, p, out, from);
-    let b = excerpt::excerpt(out, a, before, rest, column);
+    let b = excerpt::excerpt(out, a, before, rest, p.column);
     expected(awaited, out, b)
 }

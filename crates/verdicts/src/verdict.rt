@@ -133,7 +133,7 @@ fn leaf_line(
     bound: &[u32],
     steps: &[u32],
     label: &[u8],
-    leaf: Leaf,
+    leaf: Option<Leaf>,
     out: &mut [u8],
     from: usize,
 ) -> usize
@@ -141,27 +141,50 @@ fn leaf_line(
     ensures { Put out.old from (leaf_text (record { text = text.now; index = index.now; file = file.now; bound = bound.now }) steps.now label.now leaf) out.new result }
 {
     let a = put::bytes(out, from, label);
-    let Leaf::Open(number, own, literal) = leaf else {
+    let Some(leaf) = leaf else {
         return put::bytes(out, a, b"there is none\n");
     };
-    let b = shown::literal(text, index, file, own, literal, out, a);
-    let c = of(text, index, file, bound, number, own, literal, out, b);
+    let b = shown::literal(text, index, file, leaf.clause, leaf.literal, out, a);
+    let c = of(
+        text,
+        index,
+        file,
+        bound,
+        leaf.number,
+        leaf.clause,
+        leaf.literal,
+        out,
+        b,
+    );
     there(
-        text, index, file, bound, steps, number, own, literal, out, c,
+        text,
+        index,
+        file,
+        bound,
+        steps,
+        leaf.number,
+        leaf.clause,
+        leaf.literal,
+        out,
+        c,
     )
 }
 
-fn entered(sizes: &[u32], number: u32, clause: u32, literal: u32) -> Leaf
+fn entered(sizes: &[u32], number: u32, clause: u32, literal: u32) -> Option<Leaf>
     ensures { result ≡ entered_leaf sizes.now number clause literal }
 {
     if literal < leaf::at(sizes, clause) {
-        return Leaf::Open(number, clause, literal);
+        return Some(Leaf {
+            number,
+            clause,
+            literal,
+        });
     }
-    Leaf::Nothing
+    None
 }
 
 // What a step closes its leaf against.
-fn partner(sizes: &[u32], question: u32, steps: &[u32], done: u32, w: u32) -> Leaf
+fn partner(sizes: &[u32], question: u32, steps: &[u32], done: u32, w: u32) -> Option<Leaf>
     requires { done < 4294967295 }
     ensures { result ≡ partner sizes.now question steps.now done (step_of w) }
 {
@@ -171,8 +194,7 @@ fn partner(sizes: &[u32], question: u32, steps: &[u32], done: u32, w: u32) -> Le
             leaf::ancestor(sizes, question, steps, height, leaf)
         }
         Step::Extension(clause, literal) => entered(sizes, done + 1, clause, literal),
-        Step::Restart => Leaf::Nothing,
-        Step::Malformed => Leaf::Nothing,
+        Step::Restart | Step::Malformed => None,
     }
 }
 
@@ -183,7 +205,7 @@ fn partner_line(
     bound: &[u32],
     steps: &[u32],
     w: u32,
-    leaf: Leaf,
+    leaf: Option<Leaf>,
     out: &mut [u8],
     from: usize,
 ) -> usize
@@ -213,18 +235,7 @@ fn partner_line(
             out,
             from,
         ),
-        Step::Restart => leaf_line(
-            text,
-            index,
-            file,
-            bound,
-            steps,
-            b"literal: ",
-            leaf,
-            out,
-            from,
-        ),
-        Step::Malformed => leaf_line(
+        Step::Restart | Step::Malformed => leaf_line(
             text,
             index,
             file,
@@ -262,16 +273,13 @@ fn fault(status: u32, out: &mut [u8], from: usize) -> usize
 }
 
 // A fitting pair has opposite signs, the same predicate and as many arguments.
+#[tactic(auto, unfolding(crate::specs::Verdicts::fitting))]
 fn fitting(v: u32, w: u32) -> bool
     ensures { result ≡ fitting v w }
 {
-    if fields::sign(v) == fields::sign(w) {
-        return false;
-    }
-    if fields::symbol(v) != fields::symbol(w) {
-        return false;
-    }
-    fields::arity(v) == fields::arity(w)
+    fields::sign(v) != fields::sign(w)
+        && fields::symbol(v) == fields::symbol(w)
+        && fields::arity(v) == fields::arity(w)
 }
 
 fn pair(limit: u32, fits: bool, out: &mut [u8], from: usize) -> usize
@@ -293,13 +301,13 @@ fn against(
     limit: u32,
     clause: u32,
     literal: u32,
-    to: Leaf,
+    to: Option<Leaf>,
     out: &mut [u8],
     from: usize,
 ) -> usize
     ensures { Put out.old from (against_text file.now limit clause literal to) out.new result }
 {
-    let Leaf::Open(_, i, j) = to else {
+    let Some(to) = to else {
         return put::bytes(
             out,
             from,
@@ -308,18 +316,25 @@ fn against(
     };
     let fits = fitting(
         shown::literal_word(file, clause, literal),
-        shown::literal_word(file, i, j),
+        shown::literal_word(file, to.clause, to.literal),
     );
     pair(limit, fits, out, from)
 }
 
 // Why a step is not possible.
-fn why(file: &[u32], limit: u32, leaf: Leaf, to: Leaf, out: &mut [u8], from: usize) -> usize
+fn why(
+    file: &[u32],
+    limit: u32,
+    leaf: Option<Leaf>,
+    to: Option<Leaf>,
+    out: &mut [u8],
+    from: usize,
+) -> usize
     ensures { Put out.old from (why_text file.now limit leaf to) out.new result }
 {
     match leaf {
-        Leaf::Open(_, clause, literal) => against(file, limit, clause, literal, to, out, from),
-        Leaf::Nothing => put::bytes(out, from, b"All leaves are closed already.\n"),
+        Some(leaf) => against(file, limit, leaf.clause, leaf.literal, to, out, from),
+        None => put::bytes(out, from, b"All leaves are closed already.\n"),
     }
 }
 
@@ -327,8 +342,8 @@ fn reason(
     status: u32,
     file: &[u32],
     limit: u32,
-    leaf: Leaf,
-    to: Leaf,
+    leaf: Option<Leaf>,
+    to: Option<Leaf>,
     out: &mut [u8],
     from: usize,
 ) -> usize
@@ -383,8 +398,8 @@ fn pair_lines(
     bound: &[u32],
     steps: &[u32],
     w: u32,
-    leaf: Leaf,
-    to: Leaf,
+    leaf: Option<Leaf>,
+    to: Option<Leaf>,
     out: &mut [u8],
     from: usize,
 ) -> usize
@@ -406,8 +421,8 @@ fn wrong_step(
     status: u32,
     done: u32,
     w: u32,
-    leaf: Leaf,
-    to: Leaf,
+    leaf: Option<Leaf>,
+    to: Option<Leaf>,
     out: &mut [u8],
     from: usize,
 ) -> usize
@@ -426,7 +441,7 @@ fn open(
     file: &[u32],
     bound: &[u32],
     steps: &[u32],
-    leaf: Leaf,
+    leaf: Option<Leaf>,
     done: u32,
     out: &mut [u8],
     from: usize,

@@ -1,5 +1,5 @@
 -- Words made of bytes: the word at an index is made of the four bytes at four times that index, and a store of it goes on with the copy.
-use Rattle.std.proofs.Common.{◌≡◌, ℕ, zero, suc, ◌+◌, ◌*◌, ◌/◌, ◌%◌, ◌^◌, ◌<◌, ◌≤◌, min, List, [], ◌∷◌, ◌++◌, length, get_or, take, drop, set, sym, refl, ap, ◌∙◌, le_of_suc-le-suc, not-suc-le-zero, div-one, add-one, arith}
+use Rattle.std.proofs.Common.{◌≡◌, ℕ, zero, suc, ◌+◌, ◌*◌, ◌%◌, ◌^◌, ◌<◌, ◌≤◌, List, [], ◌∷◌, ◌++◌, length, get_or, take, drop, set, sym, refl, ap, ◌∙◌, le_of_suc-le-suc, not-suc-le-zero, div-one, add-one, arith}
 use lib.Pow.{split, shr_mod, mod-pow-add}
 use Rattle.words.specs.Bytes.{word_of, words_of}
 use Rattle.words.specs.Fields.{bits}

@@ -1,5 +1,4 @@
 pub mod Masks
-pub mod Shapes
 pub mod StepWords
 pub mod Fingerprints
 pub mod Packed

@@ -1,5 +1,5 @@
 -- Shifts, masks and "or" on 32-bit words as arithmetic.
-use Rattle.std.proofs.Common.{◌≡◌, ℕ, ◌+◌, ◌-◌, ◌*◌, ◌/◌, ◌%◌, ◌^◌, ◌<◌, ◌≤◌, sym, refl, ap, ◌∙◌, mod-eq_of_lt, one-mul, pow_pos}
+use Rattle.std.proofs.Common.{◌≡◌, ℕ, ◌+◌, ◌-◌, ◌*◌, ◌%◌, ◌^◌, ◌<◌, ◌≤◌, ap, ◌∙◌, mod-eq_of_lt, one-mul, pow_pos}
 use lib.Bits.{bit_and, bit_or, and_mask, or_shifted}
 use lib.Pow.{pow-lt}
 

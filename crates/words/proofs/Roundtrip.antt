@@ -1,5 +1,5 @@
 -- Encoding and then decoding a well-formed step gives it back, and so does decoding and then encoding a word that is not malformed.
-use Rattle.std.proofs.Common.{◌≡◌, ℕ, ◌+◌, ◌*◌, ◌^◌, ◌<◌, ◌≤◌, Bool, true, false, cond, ◌&&◌, eqb, ltb, leb, sym, refl, ap, ◌∙◌, arith, ltb-true, lt-ltb, eqb-true, le-leb, leb-true}
+use Rattle.std.proofs.Common.{◌≡◌, ℕ, ◌+◌, ◌*◌, ◌^◌, ◌<◌, ◌≤◌, Bool, true, false, cond, ◌&&◌, eqb, ltb, leb, sym, refl, arith, ltb-true, lt-ltb, eqb-true, le-leb, leb-true}
 use mathlib.Core.Bool.{and-eq-true_iff}
 use borrow.Author.Tests.{eqb-false}
 use Rattle.words.specs.Fields.{bits, kind_of, plain}

@@ -2,8 +2,6 @@
 ghost use Rattle.std.specs.Prelude.{◌≡◌, ◌+◌, ◌*◌, ◌/◌, ◌<◌, ◌≤◌, min, ◌++◌, length, take, drop, slice_index};
 ghost use Rattle.words.specs.Bytes.{word_of, words_of};
 
-use crate::fields::join;
-
 // A byte as a number.
 pub fn small(b: u8) -> u32
     ensures { (result ≡ b) × (result < 256) }
@@ -16,30 +14,18 @@ fn word_at(bytes: &[u8], at: usize) -> u32
     requires { at + 4 ≤ length bytes.now }
     ensures { result ≡ word_of (slice_index bytes.now at) (slice_index bytes.now (at + 1)) (slice_index bytes.now (at + 2)) (slice_index bytes.now (at + 3)) }
 {
-    let high = join(small(bytes[at + 3]), 8, small(bytes[at + 2]));
-    let low = join(small(bytes[at + 1]), 8, small(bytes[at]));
-    join(high, 16, low)
-}
-
-fn least(a: usize, b: usize) -> usize
-    ensures { result ≡ min a b }
-{
-    if a < b {
-        return a;
-    }
-    b
+    u32::from_le_bytes([bytes[at], bytes[at + 1], bytes[at + 2], bytes[at + 3]])
 }
 
 // Puts the words of the bytes at the front of a buffer, as many as it has room for; later words stay as they are.
+#[tactic(auto, using(crate::proofs::Gathered::stored))]
 pub fn gather(bytes: &[u8], out: &mut [u32]) -> usize
     ensures value { result ≡ min (length bytes.now / 4) (length out.old) }
     ensures out_after { out.new ≡ take result (words_of bytes.now) ++ drop result out.old }
 {
-    let n = least(bytes.len() / 4, out.len());
-    let mut i = 0;
-    while i < n {
+    let n = (bytes.len() / 4).min(out.len());
+    for i in 0..n {
         out[i] = word_at(bytes, i * 4);
-        i += 1;
     }
     n
 }

@@ -12,6 +12,7 @@ pub fn wide(x: u32) -> usize
 }
 
 // The lowest bits of a number, so many.
+#[tactic(auto, using(crate::proofs::Masks::lowest))]
 pub(crate) fn low(x: u32, count: u32) -> u32
     requires { count < 32 }
     ensures { result ≡ x % 2 ^ count }
@@ -93,10 +94,7 @@ pub(crate) fn plain(w: u32, wanted: u32, from: u32) -> bool
     requires { from < 30 }
     ensures { result ≡ plain wanted from w }
 {
-    if kind(w) != wanted {
-        return false;
-    }
-    bits(w, from, 30 - from) == 0
+    kind(w) == wanted && bits(w, from, 30 - from) == 0
 }
 
 pub fn variable_shaped(w: u32) -> bool
@@ -105,47 +103,37 @@ pub fn variable_shaped(w: u32) -> bool
     plain(w, 0, 10)
 }
 
+#[tactic(auto, unfolding(crate::specs::Fields::function_shaped))]
 pub fn function_shaped(w: u32) -> bool
     ensures { result ≡ function_shaped w }
 {
-    if plain(w, 1, 15) {
-        return arity(w) <= 4;
-    }
-    false
+    plain(w, 1, 15) && arity(w) <= 4
 }
 
+#[tactic(auto, unfolding(crate::specs::Fields::literal_shaped))]
 pub fn literal_shaped(w: u32) -> bool
     ensures { result ≡ literal_shaped w }
 {
-    if plain(w, 2, 16) {
-        return arity(w) <= 4;
-    }
-    false
+    plain(w, 2, 16) && arity(w) <= 4
 }
 
 // The counts of a clause word are within their limits.
+#[tactic(auto, unfolding(crate::specs::Fields::counted))]
 pub(crate) fn counted(w: u32) -> bool
     ensures { result ≡ counted w }
 {
-    if literals(w) == 0 {
-        return false;
-    }
-    if following(w) == 0 {
-        return false;
-    }
-    variables(w) <= 16
+    literals(w) != 0 && following(w) != 0 && variables(w) <= 16
 }
 
+#[tactic(auto, unfolding(crate::specs::Fields::clause_shaped))]
 pub fn clause_shaped(w: u32) -> bool
     ensures { result ≡ clause_shaped w }
 {
-    if plain(w, 3, 17) {
-        return counted(w);
-    }
-    false
+    plain(w, 3, 17) && counted(w)
 }
 
 // A number with so many low bits after it. The bits of both stay apart.
+#[tactic(auto, using(crate::proofs::Masks::joined))]
 pub(crate) fn join(high: u32, count: u32, rest: u32) -> u32
     requires { (count < 32) × (rest < 2 ^ count) × (high * 2 ^ count < 2 ^ 32) }
     ensures { result ≡ high * 2 ^ count + rest }
@@ -166,26 +154,16 @@ pub fn function_word(symbol: u32, arity: u32) -> u32
     join(join(1, 18, low(arity, 3)), 12, low(symbol, 12))
 }
 
-// A flag as a bit.
-pub(crate) fn flag(set: bool) -> u32
-    ensures { (result < 2) × (result * 2 ^ 15 ≡ sign_bit set) × (result * 2 ^ 16 ≡ mark_bit set) }
-{
-    if set {
-        return 1;
-    }
-    0
-}
-
 pub fn literal_word(negative: bool, predicate: u32, arity: u32) -> u32
     ensures { result ≡ literal_word negative (predicate % 2 ^ 12) (arity % 2 ^ 3) }
 {
-    let top = join(2, 15, flag(negative));
+    let top = join(2, 15, u32::from(negative));
     join(join(top, 3, low(arity, 3)), 12, low(predicate, 12))
 }
 
 pub fn clause_word(restricted: bool, literals: u32, variables: u32, following: u32) -> u32
     ensures { result ≡ clause_word restricted (literals % 2 ^ 3) (variables % 2 ^ 5) (following % 2 ^ 8) }
 {
-    let top = join(join(3, 14, flag(restricted)), 8, low(following, 8));
+    let top = join(join(3, 14, u32::from(restricted)), 8, low(following, 8));
     join(join(top, 5, low(variables, 5)), 3, low(literals, 3))
 }

@@ -11,6 +11,7 @@ use std::num::wrapping_add_u32;
 pub const BASIS: u32 = 0x811C_9DC5;
 
 // The product by the prime, keeping the low 32 bits: the prime is 2^24 + 2^8 + 2^7 + 2^4 + 2 + 1.
+#[tactic(auto, using(crate::proofs::Fingerprints::from_copies))]
 pub fn product(h: u32) -> u32
     ensures { result ≡ product h }
 {
@@ -20,6 +21,7 @@ pub fn product(h: u32) -> u32
     wrapping_add_u32(high, wrapping_add_u32(middle, low))
 }
 
+#[tactic(auto, using(crate::proofs::Fingerprints::mixed_one))]
 pub fn mix_byte(h: u32, b: u32) -> u32
     ensures { result ≡ mixed h (b ∷ []) }
 {
@@ -35,6 +37,7 @@ fn mix_part(h: u32, w: u32, from: u32) -> u32
 }
 
 // Each word lowest byte first.
+#[tactic(auto, using(crate::proofs::Fingerprints::by_bytes))]
 pub fn mix_word(h: u32, w: u32) -> u32
     ensures { result ≡ mixed h (word_bytes w) }
 {
@@ -44,26 +47,24 @@ pub fn mix_word(h: u32, w: u32) -> u32
     mix_part(third, w, 24)
 }
 
+#[tactic(auto, using(crate::proofs::Fingerprints::begin_words, crate::proofs::Fingerprints::turn_words, crate::proofs::Fingerprints::finish_words))]
 pub fn of_words(words: &[u32]) -> u32
     ensures { result ≡ fingerprint words.now }
 {
     let mut h = BASIS;
-    let mut i = 0;
-    while i < words.len() {
-        h = mix_word(h, words[i]);
-        i += 1;
+    for w in words {
+        h = mix_word(h, *w);
     }
     h
 }
 
+#[tactic(auto, using(crate::proofs::Fingerprints::begin_bytes, crate::proofs::Fingerprints::turn_bytes, crate::proofs::Fingerprints::finish_bytes))]
 pub fn of_bytes(text: &[u8]) -> u32
     ensures { result ≡ fnv text.now }
 {
     let mut h = BASIS;
-    let mut i = 0;
-    while i < text.len() {
-        h = mix_byte(h, small(text[i]));
-        i += 1;
+    for b in text {
+        h = mix_byte(h, small(*b));
     }
     h
 }

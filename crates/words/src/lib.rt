@@ -4,6 +4,7 @@
 pub mod bytes;
 pub mod fields;
 pub mod fingerprint;
+pub mod room;
 pub mod steps;
 
 // A step is a reduction with its height, an extension with its clause and literal, or a restart (order 11); any other word is malformed.

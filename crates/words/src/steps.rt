@@ -9,6 +9,7 @@ const RESTART: u32 = 0x8000_0000;
 
 const MALFORMED: u32 = 0xC000_0000;
 
+#[tactic(auto, unfolding(crate::specs::Steps::step_of))]
 pub fn decode(w: u32) -> Step
     ensures { result ≡ step_of w }
 {
@@ -29,40 +30,34 @@ pub fn decode(w: u32) -> Step
 pub fn decode_for(restarts: bool, w: u32) -> Step
     ensures { result ≡ step_read restarts w }
 {
-    if !restarts {
-        return decode(w);
-    }
-    if w == RESTART {
+    if restarts && w == RESTART {
         return Step::Restart;
     }
     decode(w)
 }
 
+#[tactic(auto, unfolding(crate::specs::Steps::encoded, crate::specs::Steps::well_formed, crate::specs::Steps::step_word))]
 fn reduction(height: u32) -> u32
     ensures { result ≡ encoded (Step.Reduction height) }
 {
-    if height == 0 {
-        return MALFORMED;
-    }
-    if height > 63 {
+    if height == 0 || height > 63 {
         return MALFORMED;
     }
     height
 }
 
+#[tactic(auto, unfolding(crate::specs::Steps::encoded, crate::specs::Steps::well_formed, crate::specs::Steps::step_word))]
 fn extension(clause: u32, literal: u32) -> u32
     ensures { result ≡ encoded (Step.Extension clause literal) }
 {
-    if clause >= 512 {
-        return MALFORMED;
-    }
-    if literal >= 8 {
+    if clause >= 512 || literal >= 8 {
         return MALFORMED;
     }
     join(join(1, 21, literal), 9, clause)
 }
 
 // A step that no word holds is written as the malformed one.
+#[tactic(auto, unfolding(crate::specs::Steps::encoded, crate::specs::Steps::well_formed, crate::specs::Steps::step_word))]
 pub fn encode(s: Step) -> u32
     ensures { result ≡ encoded s }
 {

@@ -1,7 +1,8 @@
 -- Numbers and words written and read again.
 use mathlib.Core.Bool.{Bool, true, false, cond, ◌&&◌}
 use mathlib.Core.List.{List, [], ◌∷◌}
-use mathlib.Core.Option.{some}
+use Rattle.std.specs.Prelude.{Option, Some, None}
+use Rattle.std.specs.Option.{option_eq}
 use mathlib.Core.Path.{◌≡◌, refl, sym, ap, ◌∙◌}
 use Prim.Native.Nat.{ℕ, zero, suc, ◌+◌, ◌*◌, ◌/◌, ◌%◌, ◌^◌, ◌≤◌, ◌<◌}
 use native.Mathlib.Omega.{arith}
@@ -44,21 +45,25 @@ some_bytes [] = false
 some_bytes (c ∷ cs) = solid (c ∷ cs)
 
 abbrev sound : ℕ → Bool
-sound n = eqb (number_said (decimal_text n)) n && (some_bytes (decimal_text n) && cond (begins (decimal_text n)) false true)
+sound n = option_eq eqb (number_said (decimal_text n)) (Some n) && (some_bytes (decimal_text n) && cond (begins (decimal_text n)) false true)
 
 each_sound : all_below sound 512 ≡ true
 unfolding all_below number_said number_of value_from digit_of significant digits_of up_to solid begins
 each_sound = refl
 
+pub some_told : (o : Option ℕ) (n : ℕ) → option_eq eqb o (Some n) ≡ true → o ≡ Some n
+some_told None n e = cc
+some_told (Some m) n e = ap (λ (k : ℕ). Some k) (eqb-true m n e)
+
 module _ (n : ℕ) (h : n < 512) where
-  pub number_back : number_said (decimal_text n) ≡ n
-  number_back = eqb-true (number_said (decimal_text n)) n (and_left _ _ (below sound 512 each_sound n h))
+  pub number_back : number_said (decimal_text n) ≡ Some n
+  number_back = some_told (number_said (decimal_text n)) n (and_left _ _ (below sound 512 each_sound n h))
 
   pub number_solid : some_bytes (decimal_text n) ≡ true
-  number_solid = and_left (some_bytes (decimal_text n)) _ (and_right (eqb (number_said (decimal_text n)) n) _ (below sound 512 each_sound n h))
+  number_solid = and_left (some_bytes (decimal_text n)) _ (and_right (option_eq eqb (number_said (decimal_text n)) (Some n)) _ (below sound 512 each_sound n h))
 
   pub number_begins : begins (decimal_text n) ≡ false
-  number_begins = turned (begins (decimal_text n)) (and_right (some_bytes (decimal_text n)) _ (and_right (eqb (number_said (decimal_text n)) n) _ (below sound 512 each_sound n h)))
+  number_begins = turned (begins (decimal_text n)) (and_right (some_bytes (decimal_text n)) _ (and_right (option_eq eqb (number_said (decimal_text n)) (Some n)) _ (below sound 512 each_sound n h)))
     where
       turned : (b : Bool) → cond b false true ≡ true → b ≡ false
       turned true e = sym e
@@ -81,7 +86,7 @@ digit_on a b rest e h =
     let d : b % 16 < 16 = omega arith in
     rw (digit_back (b % 16) d, lt-leb 16 (b % 16) d, e, le-ltb 4294967295 b h)
 
-pub hex_value : (w : ℕ) → w < 2 ^ 32 → value_from 16 0 (hex_text w) ≡ some w
+pub hex_value : (w : ℕ) → w < 2 ^ 32 → value_from 16 0 (hex_text w) ≡ Some w
 unfolding digits_of value_from
 hex_value w h =
     digit_on 0 (w / 268435456) (digits_of 16 7 w) (omega arith) (omega arith)
@@ -92,4 +97,4 @@ hex_value w h =
     ∙ digit_on (w / 4096) (w / 256) (digits_of 16 2 w) (omega arith) (omega arith)
     ∙ digit_on (w / 256) (w / 16) (digits_of 16 1 w) (omega arith) (omega arith)
     ∙ digit_on (w / 16) (w / 1) (digits_of 16 0 w) (omega arith) (omega arith)
-    ∙ (let z : w / 1 ≡ w = omega arith in ap (λ (n : ℕ). some n) z)
+    ∙ (let z : w / 1 ≡ w = omega arith in ap (λ (n : ℕ). Some n) z)

@@ -6,78 +6,73 @@ use Prim.Native.Nat.{ℕ, zero, suc, ◌+◌, ◌-◌, ◌≤◌, ◌<◌}
 use native.Mathlib.Numerals.{add-one}
 use native.Mathlib.Omega.{arith}
 use borrow.Author.Tests.{lt-ltb, le-ltb, le-leb, lt-leb, eq-eqb, ne_eqb}
+use lib.Dec.{ltb}
 use lib.ListN.{length, take, drop, get_or, length-drop, drop_of_length-le}
 use lib.Seq.{drop-drop}
 use Rattle.words.specs.declared.Step.{Step}
-use Rattle.words.specs.declared.Step.TheVariants.{Reduction, Extension}
 use Rattle.words.specs.Steps.{encoded}
 use Rattle.names.specs.Numbers.{Name}
 use Rattle.requests.specs.Pieces.{same_bytes, number_of, number_at, word_of, word_at, decimal_at, next_at, up_to, piece_at}
 use Rattle.requests.specs.declared.piece.Number.{Number}
-use Rattle.requests.specs.declared.piece.Number.TheVariants.{Value, Bad}
+use Rattle.std.specs.Prelude.{Option, Some, None}
+use Rattle.std.specs.Option.{unwrap_or}
+use Rattle.std.specs.List.{position, position_or_len}
+use Rattle.std.proofs.lemmas.Bool.Decides.{nat_tests}
+use Rattle.std.proofs.lemmas.List.Recursion.{is_position_or_len}
 use Rattle.requests.proofs.Numbers.{found_none, found_value}
 use Rattle.text.specs.Put.{Put}
 use Rattle.text.proofs.Putting.{Left, begin, further, finish}
 use Rattle.text.proofs.Written.{from_place}
-use Rattle.written_proofs.specs.Steps.{names_of, begins, only, steps_text}
-use Rattle.written_proofs.specs.Reading.{blank, piece, pieces_from, number_said, clause_said, step_made, clause_made, verb_turn, turn, complete, reads, read_proof, Told}
+use Rattle.written_proofs.specs.Steps.{begins, only}
+use Rattle.written_proofs.specs.Reading.{blank, piece, pieces_from, number_said, clause_said, step_made, height_made, clause_made, literal_made, verb_turn, turn, complete, reads, read_proof, Told}
 use Rattle.written_proofs.specs.declared.read.Awaited.{Awaited}
 use Rattle.written_proofs.specs.declared.read.Awaited.TheVariants.{Step as step, Height, Clause, Literal}
 use Rattle.written_proofs.specs.declared.read.Turn.{Turn}
 use Rattle.written_proofs.specs.declared.read.Turn.TheVariants.{Awaits, Makes, Wrong}
-use Rattle.written_proofs.specs.declared.read.Reading.{Reading}
 
 -- where a piece ends
-abbrev pub Ending : List ℕ → ℕ → ℕ → Type 0
-Ending said from end = from + length (piece (drop from said)) ≡ end + length (piece (drop end said))
+piece_first : (cs : List ℕ) → length (piece cs) ≡ position_or_len blank cs
+unfolding piece
+piece_first cs = is_position_or_len (λ (l : List ℕ). length (piece l)) blank refl (λ c l. stops (blank c) c l) cs
+  where
+    stops : (b : Bool) (c : ℕ) (l : List ℕ) → length (cond b [] (c ∷ piece l)) ≡ cond b 0 (1 + length (piece l))
+    stops true c l = refl
+    stops false c l = omega arith
 
-pub end_begin : (said : List ℕ) (from : ℕ) → Ending said from from
-end_begin said from = refl
+piece_within : (cs : List ℕ) → length (piece cs) ≤ length cs
+unfolding piece
+piece_within [] = omega arith
+piece_within (c ∷ cs) = go (blank c) (piece_within cs)
+  where
+    go : (b : Bool) → length (piece cs) ≤ length cs → length (cond b [] (c ∷ piece cs)) ≤ suc (length cs)
+    go true h = omega arith
+    go false h = omega arith
 
-module _ (said : List ℕ) (from : ℕ) {end : ℕ} (g : Ending said from end) where
-  ended : piece (drop end said) ≡ [] → end ≡ from + length (piece (drop from said))
-  ended e = let s = rw e at g in omega arith
-
-  pub end_over : length said ≤ end → end ≡ from + length (piece (drop from said))
-  unfolding piece
-  end_over h = ended (rw (drop_of_length-le said h))
-
-  module _ (h : end < length said) where
-    pub end_blank : get_or said end 0 ≤ 32 → end ≡ from + length (piece (drop from said))
-    unfolding piece
-    end_blank k = ended (rw (from_place said end h, le-leb (get_or said end 0) 32 k))
-
-    pub end_on : 32 < get_or said end 0 → Ending said from (end + 1)
-    unfolding piece
-    end_on k =
-        let e : piece (drop end said) ≡ get_or said end 0 ∷ piece (drop (end + 1) said) = rw (from_place said end h, lt-leb (get_or said end 0) 32 k) in
-        let s = rw e at g in
-        omega arith
-
-pub ruleset end_laws = (end_begin, end_over, end_blank, end_on)
+pub piece_position : (cs : List ℕ) → unwrap_or (position blank cs) (length cs) ≡ length (piece cs)
+piece_position cs = rw (← piece_first cs) (go (ltb (length (piece cs)) (length cs)) refl)
+  where
+    go : (b : Bool) → ltb (length (piece cs)) (length cs) ≡ b → unwrap_or (cond b (Some (length (piece cs))) None) (length cs) ≡ length (piece cs)
+    go true e = refl
+    go false e = grind (arith, nat_tests, piece_within cs)
 
 -- what pieces say
-module _ (own : List ℕ) {q : Number} where
-  pub number_none : q ≡ decimal_at 32 own 0 → q ≡ Bad → 512 ≡ number_said own
+module _ (own : List ℕ) {q : Option Number} where
+  pub number_none : q ≡ decimal_at 32 own 0 → q ≡ None → None ≡ number_said own
   unfolding number_at number_said
   number_none e b = rw (found_none _ (number_of 10 (up_to 32 own)) (sym e ∙ b))
 
-  pub number_some : q ≡ decimal_at 32 own 0 → {v n : ℕ} → q ≡ Value v n → v ≡ number_said own
+  pub number_some : q ≡ decimal_at 32 own 0 → {n : Number} → q ≡ Some n → Some n.value ≡ number_said own
   unfolding number_at number_said
   number_some e b = rw (found_value _ (number_of 10 (up_to 32 own)) (sym e ∙ b))
 
-pub ruleset number_laws = (number_none, number_some)
-
 module _ (ns : List Name) (own : List ℕ) {b : Bool} (e : b ≡ begins own) where
-  pub told_name : b ≡ true → {r : ℕ} → r ≡ only ns own → r ≡ clause_said ns own
+  pub told_name : b ≡ true → {r : Option ℕ} → r ≡ only ns own → r ≡ clause_said ns own
   unfolding clause_said
   told_name t h = h ∙ rw (← e, t)
 
-  pub told_number : b ≡ false → {r : ℕ} → r ≡ number_said own → r ≡ clause_said ns own
+  pub told_number : b ≡ false → {r : Option ℕ} → r ≡ number_said own → r ≡ clause_said ns own
   unfolding clause_said
   told_number f h = h ∙ rw (← e, f)
-
-pub ruleset told_laws = (told_name, told_number)
 
 module _ (s : Step) {w : ℕ} (e : w ≡ encoded s) where
   pub made_wrong : w ≡ 0xC0000000 → Wrong ≡ step_made s
@@ -88,16 +83,19 @@ module _ (s : Step) {w : ℕ} (e : w ≡ encoded s) where
   unfolding step_made
   made_step h = rw (← e, ne_eqb w 0xC0000000 h)
 
-module _ {i : ℕ} where
-  pub a_named : i < 512 → Awaits (Literal i) ≡ clause_made i
+module _ {q : Option ℕ} where
+  pub none_named : q ≡ None → Wrong ≡ clause_made q
   unfolding clause_made
-  a_named h = rw (lt-ltb i 512 h)
+  none_named e = rw e
 
-  pub not_named : 512 ≤ i → Wrong ≡ clause_made i
-  unfolding clause_made
-  not_named h = rw (le-ltb i 512 h)
+  module _ {i : ℕ} (e : q ≡ Some i) where
+    pub a_named : i < 512 → Awaits (Literal i) ≡ clause_made q
+    unfolding clause_made
+    a_named h = rw (e, lt-ltb i 512 h)
 
-pub ruleset made_laws = (made_wrong, made_step, a_named, not_named)
+    pub not_named : 512 ≤ i → Wrong ≡ clause_made q
+    unfolding clause_made
+    not_named h = rw (e, le-ltb i 512 h)
 
 module _ (own : List ℕ) {r : Bool} (er : r ≡ same_bytes own (114 ∷ 101 ∷ 100 ∷ 117 ∷ 99 ∷ 101 ∷ [])) where
   pub verb_reduce : r ≡ true → Awaits Height ≡ verb_turn own
@@ -109,54 +107,43 @@ module _ (own : List ℕ) {r : Bool} (er : r ≡ same_bytes own (114 ∷ 101 ∷
     unfolding verb_turn
     verb_extend t = rw (← er, f, ← ex, t)
 
-    module _ (g : x ≡ false) {q : Number} (e : q ≡ word_at own 0) where
-      pub verb_wrong : q ≡ Bad → Wrong ≡ verb_turn own
+    module _ (g : x ≡ false) {q : Option Number} (e : q ≡ word_at own 0) where
+      pub verb_wrong : q ≡ None → Wrong ≡ verb_turn own
       unfolding verb_turn word_at
       verb_wrong b = rw (← er, f, ← ex, g, found_none (next_at own 0) (word_of (piece_at own 0)) (sym e ∙ b))
 
-      pub verb_word : {v n : ℕ} → q ≡ Value v n → Makes v ≡ verb_turn own
+      pub verb_word : {n : Number} → q ≡ Some n → Makes n.value ≡ verb_turn own
       unfolding verb_turn word_at
       verb_word b = rw (← er, f, ← ex, g, found_value (next_at own 0) (word_of (piece_at own 0)) (sym e ∙ b))
-
-pub ruleset verb_laws = (verb_reduce, verb_extend, verb_wrong, verb_word)
 
 module _ (ns : List Name) (own : List ℕ) {a : Awaited} {r : Turn} where
   pub turn_verb : a ≡ step → r ≡ verb_turn own → r ≡ turn ns a own
   unfolding turn
   turn_verb e h = rw e h
 
-  pub turn_height : a ≡ Height → {n : ℕ} → n ≡ number_said own → r ≡ step_made (Reduction n) → r ≡ turn ns a own
-  unfolding turn
-  turn_height e en h = rw (e, ← en) h
+  module _ {q : Option ℕ} where
+    pub turn_height : a ≡ Height → q ≡ number_said own → r ≡ height_made q → r ≡ turn ns a own
+    unfolding turn
+    turn_height e en h = rw (e, ← en) h
 
-  pub turn_clause : a ≡ Clause → {n : ℕ} → n ≡ clause_said ns own → r ≡ clause_made n → r ≡ turn ns a own
-  unfolding turn
-  turn_clause e en h = rw (e, ← en) h
+    pub turn_clause : a ≡ Clause → q ≡ clause_said ns own → r ≡ clause_made q → r ≡ turn ns a own
+    unfolding turn
+    turn_clause e en h = rw (e, ← en) h
 
-  pub turn_literal : {i : ℕ} → a ≡ Literal i → {n : ℕ} → n ≡ number_said own → r ≡ step_made (Extension i n) → r ≡ turn ns a own
-  unfolding turn
-  turn_literal e en h = rw (e, ← en) h
+    pub turn_literal : {i : ℕ} → a ≡ Literal i → q ≡ number_said own → r ≡ literal_made i q → r ≡ turn ns a own
+    unfolding turn
+    turn_literal e en h = rw (e, ← en) h
 
-pub ruleset turn_laws = (turn_verb, turn_height, turn_clause, turn_literal)
+pub complete_step : {a : Awaited} → a ≡ step → true ≡ complete a
+unfolding complete
+complete_step e = rw e
 
-module _ {a : Awaited} where
-  pub complete_step : a ≡ step → true ≡ complete a
-  unfolding complete
-  complete_step e = rw e
-
-  pub complete_height : a ≡ Height → false ≡ complete a
-  unfolding complete
-  complete_height e = rw e
-
-  pub complete_clause : a ≡ Clause → false ≡ complete a
-  unfolding complete
-  complete_clause e = rw e
-
-  pub complete_literal : {i : ℕ} → a ≡ Literal i → false ≡ complete a
-  unfolding complete
-  complete_literal e = rw e
-
-pub ruleset complete_laws = (complete_step, complete_height, complete_clause, complete_literal)
+pub complete_other : (a : Awaited) → (a ≡ step → ⊥) → false ≡ complete a
+unfolding complete
+complete_other step n = absurd (n refl)
+complete_other Height n = refl
+complete_other Clause n = refl
+complete_other (Literal i) n = refl
 
 -- the pieces of a text, one after another
 pub rest_of : (at : ℕ) (cs : List ℕ) → pieces_from at true cs ≡ pieces_from (at + length (piece cs)) false (drop (length (piece cs)) cs)
@@ -178,15 +165,6 @@ piece_front (c ∷ cs) = go (blank c) (piece_front cs)
     go : (b : Bool) → take (length (piece cs)) cs ≡ piece cs → take (length (cond b [] (c ∷ piece cs))) (c ∷ cs) ≡ cond b [] (c ∷ piece cs)
     go true ih = refl
     go false ih = ap (λ (l : List ℕ). c ∷ l) ih
-
-piece_within : (cs : List ℕ) → length (piece cs) ≤ length cs
-unfolding piece
-piece_within [] = omega arith
-piece_within (c ∷ cs) = go (blank c) (piece_within cs)
-  where
-    go : (b : Bool) → length (piece cs) ≤ length cs → length (cond b [] (c ∷ piece cs)) ≤ suc (length cs)
-    go true h = omega arith
-    go false h = omega arith
 
 -- what is still to be read gives the whole
 pub record Going (ns : List Name) (said first out : List ℕ) (used at : ℕ) (a : Awaited) : Type 0 where
@@ -233,9 +211,6 @@ module _ {ns : List Name} {said first out : List ℕ} {used at : ℕ} {a : Await
           let y : drop end said ≡ drop (length (piece cs)) cs = rw x (sym (drop-drop (length (piece cs)) (at + 1) said)) in
           rw (y, z, f, lt-leb c 32 k, rest_of (suc at) cs)
 
-      pub go_part : at ≤ end
-      go_part = omega (arith, ee)
-
       pub go_within : end ≤ length said
       go_within = omega (arith, ee, piece_within (drop at said), length-drop at said)
 
@@ -271,8 +246,6 @@ module _ {ns : List Name} {said first out : List ℕ} {used at : ℕ} {a : Await
             let e : reads ns (length said) a (pieces_from at false (drop at said)) ≡ record { words = w ∷ r.words; whole = r.whole; place = r.place; awaits = r.awaits } = rw (here, ← turned, m) in
             record { within = go_within; whole = rw e at g.whole; place = rw e at g.place; awaits = rw e at g.awaits; words = further (w ∷ []) r.words (rw e at g.words) p }
 
-pub ruleset go_laws = (go_begin, go_over, go_blank, go_part, go_within, go_less, go_wrong, go_awaits, go_makes)
-
 -- the places of at most 512 clauses
 pub few_front : {p : List ℕ} (q : List ℕ) → p ≡ take 512 q → length p ≤ 512
 few_front {p} q e = rw e (length-take-within 512 q)
@@ -281,12 +254,3 @@ few_front {p} q e = rw e (length-take-within 512 q)
     length-take-within zero l = omega arith
     length-take-within (suc n) [] = omega arith
     length-take-within (suc n) (x ∷ l) = let h = length-take-within n l in omega arith
-
-module _ (text : List ℕ) {p : List ℕ} (q : List ℕ) (e : p ≡ take 512 q) where
-  pub front_read : (said : List ℕ) {first left : List ℕ} {r : Reading} → Told (read_proof (names_of text p) said) first left r → Told (read_proof (names_of text (take 512 q)) said) first left r
-  front_read said t = rw (← e) t
-
-  pub front_written : (steps : List ℕ) {out left : List ℕ} {from end : ℕ} → Put out from (steps_text (names_of text p) steps) left end → Put out from (steps_text (names_of text (take 512 q)) steps) left end
-  front_written steps t = rw (← e) t
-
-pub ruleset front_laws = (few_front, front_read, front_written)

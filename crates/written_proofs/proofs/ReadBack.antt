@@ -1,11 +1,12 @@
 -- What is written of a list of words is read as that list.
 use mathlib.Core.Bool.{Bool, true, false, cond}
 use mathlib.Core.List.{List, [], ◌∷◌, ◌++◌, append_assoc}
-use mathlib.Core.Option.{some}
+use Rattle.std.specs.Prelude.{Some}
+use Rattle.std.specs.Option.{option_eq}
 use mathlib.Core.Path.{◌≡◌, refl, sym, ap, ◌∙◌}
 use Prim.Native.Nat.{ℕ, zero, suc, ◌+◌, ◌/◌, ◌%◌, ◌<◌, ◌^◌}
 use native.Mathlib.Omega.{arith}
-use borrow.Author.Tests.{ltb-true, leb-true, eqb-true, lt-leb, lt-ltb, ne_eqb, ltb-false}
+use borrow.Author.Tests.{ltb-true, leb-true, lt-leb, lt-ltb, ne_eqb, ltb-false}
 use lib.Dec.{eqb, leb, ltb}
 use lib.ListN.{length, take, drop}
 use Rattle.words.specs.declared.Step.{Step}
@@ -25,7 +26,7 @@ use Rattle.written_proofs.specs.Reading.{blank, piece, pieces_from, clause_said,
 use Rattle.written_proofs.specs.Promises.{ReadsBack}
 use Rattle.written_proofs.specs.declared.read.Awaited.TheVariants.{Step as step, Height, Clause}
 use Rattle.written_proofs.specs.declared.read.Turn.TheVariants.{Awaits, Makes}
-use Rattle.written_proofs.proofs.Numerals.{and_left, and_right, solid, some_bytes, all_below, below, number_back, number_solid, number_begins, hex_value}
+use Rattle.written_proofs.proofs.Numerals.{and_left, and_right, solid, some_bytes, all_below, below, some_told, number_back, number_solid, number_begins, hex_value}
 
 -- a solid piece before a blank
 module _ (b : ℕ) (eb : blank b ≡ true) (rest : List ℕ) where
@@ -125,7 +126,7 @@ hex_long : (w : ℕ) → length (hex_text w) ≡ 8
 unfolding digits_of
 hex_long w = refl
 
-hex_word : (w : ℕ) → w < 2 ^ 32 → word_of (hex_text w) ≡ some w
+hex_word : (w : ℕ) → w < 2 ^ 32 → word_of (hex_text w) ≡ Some w
 unfolding word_of number_of digits_of
 hex_word w h = hex_value w h
 
@@ -193,14 +194,14 @@ both true y e = (refl, e)
 both false y e = let z : ◌≡◌ {A = ℕ} 0 1 = cc in absurd (omega arith)
 
 module _ (ns : List Name) (i : ℕ) (h : i < 512) where
-  clause-back : clause_said ns (clause_text ns i) ≡ i
+  clause-back : clause_said ns (clause_text ns i) ≡ Some i
   unfolding clause_said clause_text tells
   clause-back = go (tells ns (name_of ns i) i) refl
     where
-      go : (b : Bool) → tells ns (name_of ns i) i ≡ b → clause_said ns (cond b (name_of ns i) (decimal_text i)) ≡ i
+      go : (b : Bool) → tells ns (name_of ns i) i ≡ b → clause_said ns (cond b (name_of ns i) (decimal_text i)) ≡ Some i
       go true t =
-          let k = both (begins (name_of ns i)) (eqb (only ns (name_of ns i)) i) t in
-          rw k.0 (eqb-true (only ns (name_of ns i)) i k.1)
+          let k = both (begins (name_of ns i)) (option_eq eqb (only ns (name_of ns i)) (Some i)) t in
+          rw k.0 (some_told (only ns (name_of ns i)) i k.1)
       go false t = rw (number_begins i h) (number_back i h)
 
   clause_some : ((k : ℕ) → solid (name_of ns k) ≡ true) → some_bytes (clause_text ns i) ≡ true
@@ -208,7 +209,7 @@ module _ (ns : List Name) (i : ℕ) (h : i < 512) where
   clause_some solids = go (tells ns (name_of ns i) i) refl
     where
       go : (b : Bool) → tells ns (name_of ns i) i ≡ b → some_bytes (cond b (name_of ns i) (decimal_text i)) ≡ true
-      go true t = some_of (name_of ns i) (both (begins (name_of ns i)) (eqb (only ns (name_of ns i)) i) t).0 (solids i)
+      go true t = some_of (name_of ns i) (both (begins (name_of ns i)) (option_eq eqb (only ns (name_of ns i)) (Some i)) t).0 (solids i)
       go false t = number_solid i h
 
 module _ (ns : List Name) (end at w : ℕ) (rest : List ℕ) (h : w < 2 ^ 32) where

@@ -2,7 +2,10 @@
 use mathlib.Core.Bool.{Bool, true, false}
 use mathlib.Core.List.{List, [], ◌∷◌, ◌++◌}
 use mathlib.Core.Path.{◌≡◌, ap, ◌∙◌}
+use mathlib.Core.Logic.{◌⊎◌, inl, inr}
 use Prim.Native.Nat.{ℕ, ◌+◌, ◌≤◌, ◌<◌}
+use Rattle.std.specs.Prelude.{Option, Some}
+use Rattle.std.specs.Option.{option_eq}
 use lib.Dec.{eqb}
 use lib.ListN.{length, drop, get_or, drop_of_length-le}
 use Rattle.words.specs.declared.Step.{Step}
@@ -12,7 +15,7 @@ use Rattle.names.specs.Numbers.{Name}
 use Rattle.text.specs.Put.{Put}
 use Rattle.text.specs.Quoted.{bytes}
 use Rattle.text.specs.Digits.{decimal_text, hex_text}
-use Rattle.text.proofs.Putting.{Left, begin, further, finish, then as joined}
+use Rattle.text.proofs.Putting.{Left, further, finish, then as joined}
 use Rattle.text.proofs.Written.{from_place}
 use Rattle.written_proofs.specs.Steps.{name_of, begins, only, tells, clause_text, extension_text, step_text, steps_text}
 
@@ -28,18 +31,14 @@ module _ (ns : List Name) (i : ℕ) {k : ℕ} (ek : k ≡ i) {n : List ℕ} (en 
   unfolding clause_text
   by_number f p = rw (← named ns ek en, ← eb, f) p
 
-pub ruleset reference_laws = (by_number, by_name)
-
 module _ (ns : List Name) (n : List ℕ) (i : ℕ) {b : Bool} (e : b ≡ begins n) where
   pub tells_not : b ≡ false → false ≡ tells ns n i
   unfolding tells
   tells_not f = rw (← e, f)
 
-  pub tells_only : b ≡ true → {o : ℕ} → o ≡ only ns n → eqb o i ≡ tells ns n i
+  pub tells_only : b ≡ true → {o : Option ℕ} → o ≡ only ns n → option_eq eqb o (Some i) ≡ tells ns n i
   unfolding tells
   tells_only t eo = rw (← e, t, eo)
-
-pub ruleset tells_laws = (tells_not, tells_only)
 
 pub extension_written : (ns : List Name) (i j : ℕ) {out a b left : List ℕ} {from x y end : ℕ}
     → Put out from (bytes "extend ") a x → Put a x (clause_text ns i) b y → Put b y (32 ∷ decimal_text j) left end
@@ -55,15 +54,10 @@ module _ (ns : List Name) (w : ℕ) {s : Step} (e : s ≡ step_of w) {out left :
   unfolding step_text
   step_extension k p = rw (← e, k) p
 
-  pub step_restart : s ≡ Restart → Put out from (hex_text w) left end → Put out from (step_text ns w) left end
+  pub step_word : (s ≡ Restart) ⊎ (s ≡ Malformed) → Put out from (hex_text w) left end → Put out from (step_text ns w) left end
   unfolding step_text
-  step_restart k p = rw (← e, k) p
-
-  pub step_none : s ≡ Malformed → Put out from (hex_text w) left end → Put out from (step_text ns w) left end
-  unfolding step_text
-  step_none k p = rw (← e, k) p
-
-pub ruleset step_laws = (step_reduction, step_extension, step_restart, step_none)
+  step_word (inl k) p = rw (← e, k) p
+  step_word (inr k) p = rw (← e, k) p
 
 module _ (ns : List Name) (steps : List ℕ) {first : List ℕ} {from : ℕ} {whole out : List ℕ} {at i : ℕ} (l : Left first from whole out at (steps_text ns (drop i steps))) where
   pub steps_more : i < length steps → {mid : List ℕ} {next : ℕ} → Put out at (step_text ns (get_or steps i 0)) mid next → {out' : List ℕ} {at' : ℕ} → Put mid next (10 ∷ []) out' at'
@@ -74,5 +68,3 @@ module _ (ns : List Name) (steps : List ℕ) {first : List ℕ} {from : ℕ} {wh
   pub steps_last : length steps ≤ i → Put first from whole out at
   unfolding steps_text
   steps_last h = finish (rw (drop_of_length-le steps h) at l)
-
-pub ruleset steps_laws = (begin, steps_more, steps_last)

@@ -1,7 +1,6 @@
 -- A proof read from text: pieces separated by blanks. A piece that is `reduce` awaits a height, `extend` a clause and then a literal;
 -- another is a step's word in one to eight hexadecimal digits. The first piece that is not what is awaited is wrong.
-use Rattle.std.specs.Prelude.{Bool, true, false, cond, List, [], ◌∷◌, ◌≡◌, ℕ, suc, eqb, leb, ltb, length}
-use Rattle.std.proofs.Math.Option.{Option, none, some}
+use Rattle.std.specs.Prelude.{Bool, true, false, cond, List, [], ◌∷◌, ◌≡◌, ℕ, suc, Option, Some, None, eqb, leb, ltb, length}
 use Rattle.words.specs.declared.Step.{Step}
 use Rattle.words.specs.declared.Step.TheVariants.{Reduction, Extension}
 use Rattle.words.specs.Steps.{encoded}
@@ -37,16 +36,12 @@ pieces_from at inside (c ∷ cs) =
     cond (blank c) (pieces_from (suc at) false cs)
     (cond inside (pieces_from (suc at) true cs) (record { at = at; own = c ∷ piece cs } ∷ pieces_from (suc at) true cs))
 
--- a number in decimal digits; 512, which is no height, clause or literal, where a piece says none
-abbrev pub or_none : Option ℕ → ℕ
-or_none none = 512
-or_none (some n) = n
-
-unfoldable pub number_said : List ℕ → ℕ
-number_said p = or_none (number_of 10 (upToSpace p))
+-- a number in decimal digits, if a piece says one
+unfoldable pub number_said : List ℕ → Option ℕ
+number_said p = number_of 10 (upToSpace p)
 
 -- a clause by its name, if no other has it, or by its number
-unfoldable pub clause_said : List Name → List ℕ → ℕ
+unfoldable pub clause_said : List Name → List ℕ → Option ℕ
 clause_said ns p = cond (begins p) (only ns p) (number_said p)
 
 -- a step, if a word holds it
@@ -54,11 +49,20 @@ unfoldable pub step_made : Step → Turn
 step_made s = cond (eqb (encoded s) 0xC0000000) Wrong (Makes (encoded s))
 
 abbrev pub word_made : Option ℕ → Turn
-word_made none = Wrong
-word_made (some w) = Makes w
+word_made None = Wrong
+word_made (Some w) = Makes w
 
-unfoldable pub clause_made : ℕ → Turn
-clause_made i = cond (ltb i 512) (Awaits (Literal i)) Wrong
+abbrev pub height_made : Option ℕ → Turn
+height_made None = Wrong
+height_made (Some h) = step_made (Reduction h)
+
+unfoldable pub clause_made : Option ℕ → Turn
+clause_made None = Wrong
+clause_made (Some i) = cond (ltb i 512) (Awaits (Literal i)) Wrong
+
+abbrev pub literal_made : ℕ → Option ℕ → Turn
+literal_made i None = Wrong
+literal_made i (Some j) = step_made (Extension i j)
 
 unfoldable pub verb_turn : List ℕ → Turn
 verb_turn p =
@@ -68,9 +72,9 @@ verb_turn p =
 -- what a piece does, by what is awaited
 unfoldable pub turn : List Name → Awaited → List ℕ → Turn
 turn ns step p = verb_turn p
-turn ns Height p = step_made (Reduction (number_said p))
+turn ns Height p = height_made (number_said p)
 turn ns Clause p = clause_made (clause_said ns p)
-turn ns (Literal i) p = step_made (Extension i (number_said p))
+turn ns (Literal i) p = literal_made i (number_said p)
 
 -- what was read: the steps' words; whether that is all; the place where the text goes wrong, or its end; and what was awaited there
 pub record Read : Type 0 where

@@ -1,6 +1,7 @@
 -- A proof as text, a step a line: `reduce 1`, a height; `extend NAME 2`, a clause by its name and the number of its literal, from 0 as in the step's word.
 -- A clause whose name stands more than once is told by its number.
-use Rattle.std.specs.Prelude.{Bool, true, false, cond, List, [], ◌∷◌, ◌++◌, ℕ, suc, eqb, ltb, get_or}
+use Rattle.std.specs.Prelude.{Bool, true, false, cond, List, [], ◌∷◌, ◌++◌, ℕ, suc, Option, Some, None, eqb, ltb, get_or}
+use Rattle.std.specs.Option.{option_eq}
 use Rattle.words.specs.declared.Step.{Step}
 use Rattle.words.specs.declared.Step.TheVariants.{Reduction, Extension, Restart, Malformed}
 use Rattle.words.specs.Steps.{step_of}
@@ -27,17 +28,17 @@ unfoldable pub stands : Name → List Name → Bool
 stands name [] = false
 stands name (n ∷ ns) = cond (same_bytes n name) true (stands name ns)
 
--- the clause that alone has a name, the clauses numbered from a number on; 512, which is no clause, where none has it or several have
-unfoldable pub only_from : ℕ → Name → List Name → ℕ
-only_from i name [] = 512
-only_from i name (n ∷ ns) = cond (same_bytes n name) (cond (stands name ns) 512 i) (only_from (suc i) name ns)
+-- the clause that alone has a name, the clauses numbered from a number on; none where none has it or several have
+unfoldable pub only_from : ℕ → Name → List Name → Option ℕ
+only_from i name [] = None
+only_from i name (n ∷ ns) = cond (same_bytes n name) (cond (stands name ns) None (Some i)) (only_from (suc i) name ns)
 
-abbrev pub only : List Name → Name → ℕ
+abbrev pub only : List Name → Name → Option ℕ
 only ns name = only_from 0 name ns
 
 -- a name tells a clause if it is no number and the clause alone has it
 unfoldable pub tells : List Name → Name → ℕ → Bool
-tells ns name i = cond (begins name) (eqb (only ns name) i) false
+tells ns name i = cond (begins name) (option_eq eqb (only ns name) (Some i)) false
 
 -- a clause by its name, or by its number where its name does not tell it
 unfoldable pub clause_text : List Name → ℕ → List ℕ

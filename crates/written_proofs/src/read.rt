@@ -1,11 +1,11 @@
 // A proof read from text.
-ghost use Rattle.std.specs.Prelude.{◌≡◌, List, ◌+◌, ◌≤◌, ◌<◌, length, take, drop};
+ghost use Rattle.std.specs.Prelude.{◌≡◌, List, ◌+◌, ◌≤◌, ◌<◌, length, take, drop, position};
 ghost use Rattle.text.specs.Put.{Put};
 ghost use Rattle.written_proofs.specs.Steps.{names_of};
-ghost use Rattle.written_proofs.specs.Reading.{piece, number_said, clause_said, step_made, clause_made, verb_turn, turn, complete, read_proof, Told};
+ghost use Rattle.written_proofs.specs.Reading.{blank, piece, number_said, clause_said, step_made, height_made, clause_made, literal_made, verb_turn, turn, complete, read_proof, Told};
 
 use crate::clause;
-use requests::piece::{Number, decimal, same, word};
+use requests::piece::{decimal, same, word};
 use text::{part, put};
 use words::Step;
 use words::steps::encode;
@@ -36,33 +36,29 @@ pub struct Reading {
     pub steps: usize,
 }
 
+fn first_blank(bytes: &[u8]) -> Option<usize>
+    ensures { result ≡ position blank bytes.now }
+{
+    bytes.iter().position(|c| *c <= b' ')
+}
+
 // Where a piece ends.
 fn piece_end(said: &[u8], from: usize) -> usize
     ensures { result ≡ from + length (piece (drop from said.now)) }
 {
-    let mut end = from;
-    while end < said.len() {
-        if said[end] <= 32 {
-            return end;
-        }
-        end += 1;
-    }
-    end
+    let rest = part::rest(said, from);
+    from + first_blank(rest).unwrap_or(rest.len())
 }
 
 // The number that a piece says.
-fn number(own: &[u8]) -> u32
+fn number(own: &[u8]) -> Option<u32>
     ensures { result ≡ number_said own.now }
 {
-    let read = decimal(own, 0, b' ');
-    let Number::Value(value, _) = read else {
-        return clause::NONE;
-    };
-    value
+    Some(decimal(own, 0, b' ')?.value)
 }
 
 // The clause that a piece tells.
-fn told(text: &[u8], places: &[u32], own: &[u8]) -> u32
+fn told(text: &[u8], places: &[u32], own: &[u8]) -> Option<u32>
     requires { length places.now ≤ 512 }
     ensures { result ≡ clause_said (names_of text.now places.now) own.now }
 {
@@ -92,20 +88,37 @@ fn verb(own: &[u8]) -> Turn
     if same(own, b"extend") {
         return Turn::Awaits(Awaited::Clause);
     }
-    let read = word(own, 0);
-    let Number::Value(value, _) = read else {
+    let Some(read) = word(own, 0) else {
         return Turn::Wrong;
     };
-    Turn::Makes(value)
+    Turn::Makes(read.value)
 }
 
-fn named(clause: u32) -> Turn
+fn reduction(height: Option<u32>) -> Turn
+    ensures { result ≡ height_made height }
+{
+    let Some(height) = height else {
+        return Turn::Wrong;
+    };
+    made(Step::Reduction(height))
+}
+
+fn named(clause: Option<u32>) -> Turn
     ensures { result ≡ clause_made clause }
 {
-    if clause < 512 {
-        return Turn::Awaits(Awaited::Literal(clause));
+    match clause {
+        Some(clause) if clause < 512 => Turn::Awaits(Awaited::Literal(clause)),
+        _ => Turn::Wrong,
     }
-    Turn::Wrong
+}
+
+fn extension(clause: u32, literal: Option<u32>) -> Turn
+    ensures { result ≡ literal_made clause literal }
+{
+    let Some(literal) = literal else {
+        return Turn::Wrong;
+    };
+    made(Step::Extension(clause, literal))
 }
 
 fn weigh(text: &[u8], places: &[u32], awaited: Awaited, own: &[u8]) -> Turn
@@ -114,21 +127,16 @@ fn weigh(text: &[u8], places: &[u32], awaited: Awaited, own: &[u8]) -> Turn
 {
     match awaited {
         Awaited::Step => verb(own),
-        Awaited::Height => made(Step::Reduction(number(own))),
+        Awaited::Height => reduction(number(own)),
         Awaited::Clause => named(told(text, places, own)),
-        Awaited::Literal(clause) => made(Step::Extension(clause, number(own))),
+        Awaited::Literal(clause) => extension(clause, number(own)),
     }
 }
 
 fn complete(awaited: Awaited) -> bool
     ensures { result ≡ complete awaited }
 {
-    match awaited {
-        Awaited::Step => true,
-        Awaited::Height => false,
-        Awaited::Clause => false,
-        Awaited::Literal(_) => false,
-    }
+    matches!(awaited, Awaited::Step)
 }
 
 fn pieces(text: &[u8], places: &[u32], said: &[u8], steps: &mut [u32]) -> Reading

@@ -45,8 +45,7 @@ fn step(text: &[u8], places: &[u32], w: u32, out: &mut [u8], from: usize) -> usi
     match decode(w) {
         Step::Reduction(height) => put::field(out, from, b"reduce ", height),
         Step::Extension(clause, literal) => extension(text, places, clause, literal, out, from),
-        Step::Restart => put::hex(out, from, w),
-        Step::Malformed => put::hex(out, from, w),
+        Step::Restart | Step::Malformed => put::hex(out, from, w),
     }
 }
 
@@ -55,11 +54,9 @@ fn lines(text: &[u8], places: &[u32], steps: &[u32], out: &mut [u8], from: usize
     ensures { Put out.old from (steps_text (names_of text.now places.now) steps.now) out.new result }
 {
     let mut at = from;
-    let mut i = 0;
-    while i < steps.len() {
-        let written = step(text, places, steps[i], out, at);
+    for w in steps {
+        let written = step(text, places, *w, out, at);
         at = put::byte(out, written, b'\n');
-        i += 1;
     }
     at
 }

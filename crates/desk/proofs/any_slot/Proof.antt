@@ -9,4 +9,4 @@ ruleset all = (rules, any_laws)
 
 pub any_slot_spec : {M : Type 1} → statement M
 any_slot_spec =
-    tie.close (tie.spec (λ c κs. let a = c.args in may_ask a.records.now a.day a.house 3 c.requires.0 (omega arith) (omega arith)) (λ c. search rules) (λ c. search rules) (λ c. search rules) (λ c. search all) (λ c. search all) (λ c. search all))
+    tie.close (tie.spec (λ c κs. let a = c.args in may_ask a.records.now a.day a.house c.requires.0) (λ c. search rules) (λ c. search rules) (λ c. search rules) (λ c. search all) (λ c. search all) (λ c. search all))

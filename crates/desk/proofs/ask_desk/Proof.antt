@@ -15,7 +15,7 @@ ask_desk_spec =
     (tie.spec
     (λ c κs. search rules)
     (λ c. search all)
-    (λ c κs. let a = c.args in may_ask a.records.now a.day a.house 1 (taken_in a.records.now a.day a.house a.first a.second a.third c.acceptable.ensures (ap not c.if-not-acceptable.false)) (omega arith) (omega arith))
+    (λ c κs. let a = c.args in may_ask a.records.now a.day a.house (taken_in a.records.now a.day a.house a.first a.second a.third c.acceptable.ensures (ap not c.if-not-acceptable.false)))
     (λ c. search rules)
     (λ c. search rules)
     (λ c κs. search all)

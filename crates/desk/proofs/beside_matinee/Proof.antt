@@ -9,4 +9,4 @@ ruleset all = (rules, evening_laws)
 
 pub beside_matinee_spec : {M : Type 1} → statement M
 beside_matinee_spec =
-    tie.close (tie.spec (λ c κs. let a = c.args in may_ask a.records.now a.day a.house 2 c.requires (omega arith) (omega arith)) (λ c. search rules) (λ c. search rules) (λ c. search rules) (λ c. search all) (λ c. search all) (λ c. search all))
+    tie.close (tie.spec (λ c κs. let a = c.args in may_ask a.records.now a.day a.house c.requires) (λ c. search rules) (λ c. search rules) (λ c. search rules) (λ c. search all) (λ c. search all) (λ c. search all))

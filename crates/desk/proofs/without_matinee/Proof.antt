@@ -11,7 +11,7 @@ pub without_matinee_spec : {M : Type 1} → statement M
 without_matinee_spec =
     tie.close
     (tie.spec
-    (λ c κs. let a = c.args in may_ask a.records.now a.day a.house 2 c.requires.0 (omega arith) (omega arith))
+    (λ c κs. let a = c.args in may_ask a.records.now a.day a.house c.requires.0)
     (λ c. search rules)
     (λ c. search rules)
     (λ c. search rules)

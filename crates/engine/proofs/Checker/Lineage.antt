@@ -11,7 +11,7 @@ use Rattle.rules.proofs.Lists.{none_some}
 use Rattle.unification.specs.State.{literal_at, parent_at}
 use Rattle.tableaux.specs.Leaves.{chain}
 use Rattle.engine.specs.Checking.{Upward, lineage, above_of}
-use Rattle.engine.specs.declared.check.Above.TheVariants.{At, Nothing}
+use Rattle.std.specs.Prelude.{Some, None}
 use Rattle.tableaux.proofs.Chains.{chain_at, chain_past, chain_none}
 
 -- how far the walk has come
@@ -43,7 +43,7 @@ module _ (m : List ℕ) (head height : ℕ) where
   climb_begin h = record { low = h; high = omega arith; same = refl }
 
   module _ {at left : ℕ} (g : Climbing m head height at left) where
-    pub climb_end : left ≡ 0 → Upward m head → {r : ℕ} → r ≡ literal_at m (at - 1) → At r ≡ above_of (get_elem? (lineage m head) height)
+    pub climb_end : left ≡ 0 → Upward m head → {r : ℕ} → r ≡ literal_at m (at - 1) → Some r ≡ above_of (get_elem? (lineage m head) height)
     climb_end z up e =
         let here = lineage_up m at g.low (up (at - 1) (omega (arith, g.low, g.high))) in
         rw (g.same, here, z, e)
@@ -55,7 +55,7 @@ module _ (m : List ℕ) (head height : ℕ) where
       next-same : get_elem? (lineage m head) height ≡ get_elem? (lineage m q) (left - 1)
       next-same = g.same ∙ at_next (lineage m at) _ _ left (lineage_up m at g.low low-parent) n ∙ rw e
 
-      pub climb_none : q ≡ 0 → Nothing ≡ above_of (get_elem? (lineage m head) height)
+      pub climb_none : q ≡ 0 → None ≡ above_of (get_elem? (lineage m head) height)
       climb_none z = let none_left : lineage m q ≡ [] = rw z (chain_none (literal_at m) (parent_at m) 0) in rw (next-same, none_left)
 
       pub climb_on : (q ≡ 0 → ⊥) → Climbing m head height q (left - 1)

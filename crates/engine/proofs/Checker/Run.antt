@@ -1,7 +1,7 @@
 -- The checker's way through the offered steps: where it begins, how it goes on, and where it stops, one law for each.
 use mathlib.Core.Path.{◌≡◌, refl, sym, ◌∙◌}
 use mathlib.Core.Bool.{Bool}
-use mathlib.Core.List.{List, map}
+use mathlib.Core.List.{List}
 use Prim.Native.Nat.{ℕ, suc, ◌+◌, ◌-◌, ◌≤◌, ◌<◌}
 use native.Mathlib.Numerals.{add-one}
 use native.Mathlib.Omega.{arith}
@@ -13,8 +13,6 @@ use Rattle.table.proofs.Accepted.{accepted}
 use Rattle.table.proofs.AcceptedTable.{body_readable, question_start}
 use Rattle.table.proofs.Terms.{from_place}
 use Rattle.rules.specs.Tableau.{start}
-use Rattle.rules.specs.Comparison.{a_clash, a_circle}
-use Rattle.rules.specs.Verdict.{malformed, not_allowed, not_unified, leaves_open}
 use Rattle.rules.specs.Machinery.Play.{Play, begin, Performed, perform, at_end, onwards, check_from, check}
 use Rattle.unification.specs.Places.{most_variables}
 use Rattle.unification.specs.State.{numbered_at, ClauseAt, bindings_of}
@@ -26,10 +24,11 @@ use Rattle.index.proofs.Linking.{indexed_same}
 use Rattle.engine.proofs.Literals.Entries.{few_literals}
 use Rattle.engine.specs.Ended.{setting_for}
 use Rattle.engine.specs.declared.Conditions.{Conditions}
-use Rattle.engine.specs.Checking.{status_for, NotedFor, Moved, PlayAt, Says, read_for, Checked, AcceptedAs, RefusedAs}
+use Rattle.engine.specs.Checking.{NotedFor, Moved, PlayAt, Says, read_for, Checked, AcceptedAs, RefusedAs}
 use Rattle.tableaux.specs.declared.tableau.Place.{Place}
-use Rattle.engine.specs.declared.check.Judged.{Judged}
-use Rattle.engine.specs.declared.check.Judged.TheVariants.{On, Malformed, NotAllowed, Clashes, Circular}
+use Rattle.std.specs.Prelude.{Result, Ok, Err}
+use Rattle.engine.specs.declared.check.Refusal.{Refusal}
+use Rattle.engine.specs.declared.check.Refusal.TheVariants.{Malformed, NotAllowed, Clashes, Circular, LeavesOpen}
 use Rattle.tableaux.proofs.Chains.{chain_none}
 use Rattle.engine.proofs.Literals.Places.{question_placed}
 use Rattle.engine.proofs.Performed.{open_first}
@@ -98,10 +97,10 @@ module _ {f m : List ℕ} {conditions : Conditions} {noted : Bool} {offered : Li
     unfolding check_from
     same_step = g.same ∙ rw (from_place offered i h)
 
-    pub run_on : {m' : List ℕ} {j : Judged} → Checked f m m' conditions place (get_or offered i 0) j → {next : Place} → j ≡ On next → Running f m' conditions noted offered next (i + 1)
+    pub run_on : {m' : List ℕ} {j : Result Place Refusal} → Checked f m m' conditions place (get_or offered i 0) j → {next : Place} → j ≡ Ok next → Running f m' conditions noted offered next (i + 1)
     unfolding onwards
     run_on {m'} {j} k {next} e =
-        let here : Checked f m m' conditions place (get_or offered i 0) (On next) = rw e at k in
+        let here : Checked f m m' conditions place (get_or offered i 0) (Ok next) = rw e at k in
         let moved : Moved f m m' (read_for conditions (get_or offered i 0)) place next = here.moves in
         let goes = here.says g.play g.stands in
         record {
@@ -115,17 +114,19 @@ module _ {f m : List ℕ} {conditions : Conditions} {noted : Bool} {offered : Li
           same = same_step ∙ rw (goes.1, add-one);
         }
 
-    refuse : (m' : List ℕ) (j : Judged) → Says f m' (read_for conditions (get_or offered i 0)) j outcome → ((next : Place) → j ≡ On next → ⊥) → RefusedAs f conditions offered (status_for j) i
+    refuse : (m' : List ℕ) (why : Refusal) → Says f m' (read_for conditions (get_or offered i 0)) (Err why) outcome → RefusedAs f conditions offered why i
     unfolding onwards
-    refuse m' (On next) k n = absurd (n next refl)
-    refuse m' Malformed k n = record { why = malformed; stops = same_step ∙ rw (k.0, k.1); number = refl }
-    refuse m' NotAllowed k n = record { why = not_allowed; stops = same_step ∙ rw (k.0, k.1); number = refl }
-    refuse m' Clashes k n = record { why = not_unified a_clash; stops = same_step ∙ rw k; number = refl }
-    refuse m' Circular k n = record { why = not_unified a_circle; stops = same_step ∙ rw k; number = refl }
+    refuse m' Malformed k = record { stops = same_step ∙ rw (k.0, k.1) }
+    refuse m' NotAllowed k = record { stops = same_step ∙ rw (k.0, k.1) }
+    refuse m' Clashes k = record { stops = same_step ∙ rw k }
+    refuse m' Circular k = record { stops = same_step ∙ rw k }
+    refuse m' LeavesOpen k = absurd k
 
-    pub run_refuses : {m' : List ℕ} (j : Judged) → Checked f m m' conditions place (get_or offered i 0) j → ((next : Place) → j ≡ On next → ⊥) → {status : ℕ} → status ≡ status_for j
-        → RefusedAs f conditions offered status place.steps
-    run_refuses {m'} j k n e = rw (e, g.steps) (refuse m' j (k.says g.play g.stands) n)
+    pub run_refuses : {m' : List ℕ} {j : Result Place Refusal} → Checked f m m' conditions place (get_or offered i 0) j → {why : Refusal} → j ≡ Err why
+        → RefusedAs f conditions offered why place.steps
+    run_refuses {m'} {j} k {why} e =
+        let here : Checked f m m' conditions place (get_or offered i 0) (Err why) = rw e at k in
+        rw g.steps (refuse m' why (here.says g.play g.stands))
 
   -- the end
   module _ (h : length offered ≤ i) where
@@ -136,9 +137,9 @@ module _ {f m : List ℕ} {conditions : Conditions} {noted : Bool} {offered : Li
     unfolding check_from
     same_end = g.same ∙ rw (drop_of_length-le offered {i = i} h, ← g.stands.leaves)
 
-    pub run_open : (place.head ≡ 0 → ⊥) → RefusedAs f conditions offered 15 place.steps
+    pub run_open : (place.head ≡ 0 → ⊥) → RefusedAs f conditions offered LeavesOpen place.steps
     unfolding at_end
-    run_open n = record { why = leaves_open; stops = same_end ∙ rw (open_first g.ready (omega arith), g.steps); number = refl }
+    run_open n = record { stops = same_end ∙ rw (open_first g.ready (omega arith), g.steps) }
 
     pub run_done : place.head ≡ 0 → {question : ℕ} → question ≡ (judge f).question → AcceptedAs f m question conditions offered place.steps
     unfolding at_end

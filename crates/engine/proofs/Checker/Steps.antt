@@ -2,18 +2,18 @@
 use mathlib.Core.Path.{◌≡◌, refl, sym, ap, ◌∙◌}
 use mathlib.Core.Bool.{Bool, true, false, cond, ◌&&◌}
 use mathlib.Core.List.{List, [], ◌∷◌, map}
-use mathlib.Core.Option.{Option, none, some}
+use mathlib.Core.Option.{Option as Maybe, none, some}
 use Prim.Native.Nat.{ℕ, zero, suc, ◌+◌, ◌-◌, ◌/◌, ◌≤◌, ◌<◌}
 use native.Mathlib.Omega.{arith}
 use borrow.Author.Tests.{eq-eqb, ne_eqb, le-ltb, eqb-true, eqb-false}
-use lib.Dec.{eqb, ltb}
-use lib.ListN.{length, take, drop, get_or, get_elem?}
+use lib.Dec.{eqb}
+use lib.ListN.{length, drop, get_or, get_elem?}
 use Rattle.words.specs.Fields.{bits, plain, negative_of}
 use Rattle.words.specs.Steps.{step_of, step_read}
 use Rattle.words.proofs.Packed.{bits_small}
 use Rattle.words.specs.declared.Step.{Step}
 use Rattle.words.specs.declared.Step.TheVariants as step
-use Rattle.table.specs.Syntax.{Literal, literal_under, Clause, Table, all_clauses}
+use Rattle.table.specs.Syntax.{Literal, literal_under, Clause, all_clauses}
 use Rattle.table.specs.Decode.{clause_of}
 use Rattle.table.specs.File.{judge, table_in}
 use Rattle.table.proofs.AcceptedTable.{body_readable, question_start}
@@ -34,16 +34,12 @@ use Rattle.engine.specs.Ended.{setting_for}
 use Rattle.engine.specs.declared.Conditions.{Conditions}
 use Rattle.engine.specs.Checking.{Upward, lineage, above_of, judged_by, LocatedAt, Located, Moved, Moves, PlayAt, Says, read_for, restarts_leaf, Checked}
 use Rattle.index.specs.declared.entries.Scan.{Scan}
-use Rattle.index.specs.declared.entries.Candidate.{Candidate}
-use Rattle.index.specs.declared.entries.Candidate.TheVariants.{Entry, Done}
+use Rattle.std.specs.Prelude.{Option, Some, None, Result, Ok, Err}
 use Rattle.tableaux.specs.declared.tableau.Place.{Place}
-use Rattle.tableaux.specs.declared.tableau.Taken.{Taken}
-use Rattle.unification.specs.declared.unify.Meeting.{Meeting}
-use Rattle.unification.specs.declared.unify.Meeting.TheVariants.{Made, Clash, Circle}
-use Rattle.engine.specs.declared.check.Above.{Above}
-use Rattle.engine.specs.declared.check.Above.TheVariants.{At, Nothing}
-use Rattle.engine.specs.declared.check.Judged.{Judged}
-use Rattle.engine.specs.declared.check.Judged.TheVariants.{On, Malformed, NotAllowed}
+use Rattle.unification.specs.declared.unify.Unmet.{Unmet}
+use Rattle.unification.specs.declared.unify.Unmet.TheVariants.{Clash, Circle}
+use Rattle.engine.specs.declared.check.Refusal.{Refusal}
+use Rattle.engine.specs.declared.check.Refusal.TheVariants.{Malformed, NotAllowed}
 use Rattle.tableaux.proofs.Chains.{chain_at, chain_none}
 use Rattle.engine.proofs.Literals.Fitting.{fits_by_word}
 use Rattle.engine.proofs.Literals.Sound.{owing_arity}
@@ -101,11 +97,11 @@ module _ (conditions : Conditions) (w : ℕ) where
   restart-refused e = rw e
 
 -- steps that the rules do not allow
-within_none : {A : Type 0} (b : Bool) (o : Option A) → o ≡ none → cond b o none ≡ none
+within_none : {A : Type 0} (b : Bool) (o : Maybe A) → o ≡ none → cond b o none ≡ none
 within_none true o e = e
 within_none false o e = refl
 
-none_within : {A : Type 0} (b : Bool) (o : Option A) → cond (b && false) o none ≡ none
+none_within : {A : Type 0} (b : Bool) (o : Maybe A) → cond (b && false) o none ≡ none
 none_within true o = refl
 none_within false o = refl
 
@@ -158,7 +154,7 @@ module _ (S : Setting) (x : Tableau) where
     unfolding stepped treated extended entered
     extension-unfit i j c a f = rw l (within_none (may_extend S x.extensions leaf) _ (rw (c, a, f)))
 
-    extended_none : (i j : ℕ) (o : Option Clause) → ((c : Clause) → o ≡ some c → get_elem? c.literals j ≡ none) → extended S.table x leaf rest i j o ≡ none
+    extended_none : (i j : ℕ) (o : Maybe Clause) → ((c : Clause) → o ≡ some c → get_elem? c.literals j ≡ none) → extended S.table x leaf rest i j o ≡ none
     unfolding extended entered copy_of
     extended_none i j none h = refl
     extended_none i j (some c) h = rw (absent (literal_under (fresh (suc x.extensions))) c.literals j (h c refl))
@@ -174,37 +170,37 @@ unfolding perform performed
 impossible S p s e = rw e
 
 module _ {f m : List ℕ} {place : Place} (conditions : Conditions) (word : ℕ) where
-  pub malformed_judged : step.Malformed ≡ read_for conditions word → Checked f m m conditions place word Malformed
+  pub malformed_judged : step.Malformed ≡ read_for conditions word → Checked f m m conditions place word (Err Malformed)
   unfolding refusal
   malformed_judged e =
       record { moves = tt; says = λ p s. rw (← e) (impossible (setting_for f conditions) p step.Malformed (malformed-none (setting_for f conditions) p.tableau), refl) }
 
   unallowed : refusal (read_for conditions word) ≡ not_allowed → ((p : Play) → PlayAt f m place p → stepped (setting_for f conditions) p.tableau (read_for conditions word) ≡ none)
-      → Checked f m m conditions place word NotAllowed
+      → Checked f m m conditions place word (Err NotAllowed)
   unallowed r h = record { moves = tt; says = λ p s. (impossible (setting_for f conditions) p (read_for conditions word) (h p s), r) }
 
-  closed : refusal (read_for conditions word) ≡ not_allowed → place.head ≡ 0 → Checked f m m conditions place word NotAllowed
+  closed : refusal (read_for conditions word) ≡ not_allowed → place.head ≡ 0 → Checked f m m conditions place word (Err NotAllowed)
   closed r z =
       unallowed r
       (λ p s. closed_none (setting_for f conditions) p.tableau (read_for conditions word) (s.leaves ∙ rw z (chain_none (leaf_at f m) (next_at m) place.leaves)))
 
 -- what was judged of a step whose pair was brought together
-judged_says : (f m : List ℕ) (next : Place) (s : Step) (o : Performed) (meeting : Meeting) → Comes f m (judge f).question next meeting o → Says f m s (judged_by meeting next) o
-judged_says f m next s o Made c = c
-judged_says f m next s o Clash c = c
-judged_says f m next s o Circle c = c
+judged_says : (f m : List ℕ) (s : Step) (o : Performed) (taken : Result Place Unmet) → Comes f m (judge f).question taken o → Says f m s (judged_by taken) o
+judged_says f m s o (Ok next) c = c
+judged_says f m s o (Err Clash) c = c
+judged_says f m s o (Err Circle) c = c
 
-judged_moves : (f m m' : List ℕ) (s : Step) (place next : Place) (meeting : Meeting) → (meeting ≡ Made → Moved f m m' s place next) → Moves f m m' s place (judged_by meeting next)
-judged_moves f m m' s place next Made h = h refl
-judged_moves f m m' s place next Clash h = tt
-judged_moves f m m' s place next Circle h = tt
+judged_moves : (f m m' : List ℕ) (s : Step) (place : Place) (taken : Result Place Unmet) → ((next : Place) → taken ≡ Ok next → Moved f m m' s place next) → Moves f m m' s place (judged_by taken)
+judged_moves f m m' s place (Ok next) h = h next refl
+judged_moves f m m' s place (Err Clash) h = tt
+judged_moves f m m' s place (Err Circle) h = tt
 
-module _ {f m m' : List ℕ} {place next : Place} where
-  judged : (conditions : Conditions) (word : ℕ) (meeting : Meeting) {j : Judged} → j ≡ judged_by meeting next → (meeting ≡ Made → Moved f m m' (read_for conditions word) place next)
-      → ((p : Play) → PlayAt f m place p → Comes f m' (judge f).question next meeting (perform (setting_for f conditions) p (read_for conditions word)))
+module _ {f m m' : List ℕ} {place : Place} where
+  judged : (conditions : Conditions) (word : ℕ) (taken : Result Place Unmet) {j : Result Place Refusal} → j ≡ judged_by taken → ((next : Place) → taken ≡ Ok next → Moved f m m' (read_for conditions word) place next)
+      → ((p : Play) → PlayAt f m place p → Comes f m' (judge f).question taken (perform (setting_for f conditions) p (read_for conditions word)))
       → Checked f m m' conditions place word j
-  judged conditions word meeting e h c =
-      rw e (record { moves = judged_moves f m m' (read_for conditions word) place next meeting h; says = λ p s. judged_says f m' next (read_for conditions word) (perform (setting_for f conditions) p (read_for conditions word)) meeting (c p s) })
+  judged conditions word taken e h c =
+      rw e (record { moves = judged_moves f m m' (read_for conditions word) place taken h; says = λ p s. judged_says f m' (read_for conditions word) (perform (setting_for f conditions) p (read_for conditions word)) taken (c p s) })
 
 -- the leftmost leaf, and the ancestor at a height by the references from the leaf up
 module _ {f m : List ℕ} {place : Place} (ready : Ready f m place) (n : place.head ≡ 0 → ⊥) where
@@ -228,22 +224,22 @@ module _ {f m : List ℕ} {place : Place} (ready : Ready f m place) (n : place.h
   branch-references : leaf.branch ≡ map (literal_at_reference f m) references
   branch-references = chain_map (literal_at_reference f m) (literal_at m) (parent_at m) (place.head - 1) (parent_at m (place.head - 1))
 
-  missing : (o : Option ℕ) → Nothing ≡ above_of o → o ≡ none
+  missing : (o : Maybe ℕ) → None ≡ above_of o → o ≡ none
   missing none e = refl
   missing (some r) e = cc
 
-  found : (o : Option ℕ) {r : ℕ} → At r ≡ above_of o → o ≡ some r
+  found : (o : Maybe ℕ) {r : ℕ} → Some r ≡ above_of o → o ≡ some r
   found none e = cc
   found (some q) e = cc
 
-  above_none : (height : ℕ) → 0 < height → Nothing ≡ above_of (get_elem? (lineage m place.head) height) → ancestor height leaf.branch ≡ none
+  above_none : (height : ℕ) → 0 < height → None ≡ above_of (get_elem? (lineage m place.head) height) → ancestor height leaf.branch ≡ none
   unfolding ancestor
   above_none zero h a = absurd (omega arith)
   above_none (suc k) h a =
       let gone : get_elem? references k ≡ none = rw lineage-first at (missing (get_elem? (lineage m place.head) (suc k)) a) in
       rw branch-references (absent (literal_at_reference f m) references k gone)
 
-  above-some : (height : ℕ) → 0 < height → {r : ℕ} → At r ≡ above_of (get_elem? (lineage m place.head) height) → ancestor height leaf.branch ≡ some (literal_at_reference f m r)
+  above-some : (height : ℕ) → 0 < height → {r : ℕ} → Some r ≡ above_of (get_elem? (lineage m place.head) height) → ancestor height leaf.branch ≡ some (literal_at_reference f m r)
   unfolding ancestor
   above-some zero h a = absurd (omega arith)
   above-some (suc k) h {r} a =
@@ -253,7 +249,7 @@ module _ {f m : List ℕ} {place : Place} (ready : Ready f m place) (n : place.h
   pub leaf_stands : LiteralStands f m (leaf_of m place)
   leaf_stands = ready.noted.stands (place.head - 1) (omega (arith, ready.head))
 
-  above-stands : (height : ℕ) {r : ℕ} → At r ≡ above_of (get_elem? (lineage m place.head) height) → LiteralStands f m r
+  above-stands : (height : ℕ) {r : ℕ} → Some r ≡ above_of (get_elem? (lineage m place.head) height) → LiteralStands f m r
   above-stands height a =
       let from = chain_member (literal_at m) (parent_at m) place.head place.head height (found (get_elem? (lineage m place.head) height) a) in
       rw from.2 at (ready.noted.stands from.0 (omega (arith, from.1, ready.head)))
@@ -271,16 +267,16 @@ ready_upward ready c h = ready.noted.up c (omega (arith, ready.head))
 
 -- a reduction
 module _ {f m : List ℕ} {place : Place} (ready : Ready f m place) (word height : ℕ) where
-  pub reduce_closed : place.head ≡ 0 → (conditions : Conditions) → read_for conditions word ≡ step.Reduction height → Checked f m m conditions place word NotAllowed
+  pub reduce_closed : place.head ≡ 0 → (conditions : Conditions) → read_for conditions word ≡ step.Reduction height → Checked f m m conditions place word (Err NotAllowed)
   reduce_closed z conditions s = closed conditions word (reduction-refused conditions word s) z
 
-  module _ (n : place.head ≡ 0 → ⊥) {a : Above} (e : a ≡ above_of (get_elem? (lineage m place.head) height)) where
-    pub reduce_missing : a ≡ Nothing → (conditions : Conditions) → read_for conditions word ≡ step.Reduction height → Checked f m m conditions place word NotAllowed
+  module _ (n : place.head ≡ 0 → ⊥) {a : Option ℕ} (e : a ≡ above_of (get_elem? (lineage m place.head) height)) where
+    pub reduce_missing : a ≡ None → (conditions : Conditions) → read_for conditions word ≡ step.Reduction height → Checked f m m conditions place word (Err NotAllowed)
     reduce_missing z conditions s =
         unallowed conditions word (reduction-refused conditions word s)
         (λ p st. rw s (reduction_none (setting_for f conditions) p.tableau (leaf ready n) (right ready n) (first_leaf ready n p st) height (above_none ready n height (some-height conditions word s) (sym z ∙ e))))
 
-    module _ {r : ℕ} (g : a ≡ At r) where
+    module _ {r : ℕ} (g : a ≡ Some r) where
       other-stands : LiteralStands f m r
       other-stands = above-stands ready n height (sym g ∙ e)
 
@@ -288,7 +284,7 @@ module _ {f m : List ℕ} {place : Place} (ready : Ready f m place) (word height
       reduce_reads = stands_inside f m r ready.good other-stands
 
       module _ (small : Small f) {v w : ℕ} (ev : v ≡ word_at f m r) (ew : w ≡ other_sign (word_at f m (leaf_of m place))) where
-        pub reduce_unfit : (v ≡ w → ⊥) → (conditions : Conditions) → read_for conditions word ≡ step.Reduction height → Checked f m m conditions place word NotAllowed
+        pub reduce_unfit : (v ≡ w → ⊥) → (conditions : Conditions) → read_for conditions word ≡ step.Reduction height → Checked f m m conditions place word (Err NotAllowed)
         reduce_unfit d conditions s =
             let apart = fits_at small (stands_literate f m _ (leaf_stands ready n)) (stands_literate f m r other-stands) ∙ ne_eqb _ _ (λ q. d (ev ∙ q ∙ sym ew)) in
             unallowed conditions word (reduction-refused conditions word s)
@@ -307,13 +303,13 @@ module _ {f m : List ℕ} {place : Place} (ready : Ready f m place) (word height
                 alike = alike_other _ _ (stands_literate f m _ (leaf_stands ready n)).shaped (small _) other_sign_lem;
               }
 
-          pub reduce_judged : {m' : List ℕ} {taken : Taken} → Reduced f m m' place r word taken → {j : Judged} → j ≡ judged_by taken.meeting taken.place
+          pub reduce_judged : {m' : List ℕ} {taken : Result Place Unmet} → Reduced f m m' place r word taken → {j : Result Place Refusal} → j ≡ judged_by taken
               → (conditions : Conditions) → read_for conditions word ≡ step.Reduction height → Checked f m m' conditions place word j
           reduce_judged {m'} {taken} h ej conditions s =
               let fitting = fits_other small (stands_literate f m _ (leaf_stands ready n)) (stands_literate f m r other-stands) other_sign_lem in
               let there = above-some ready n height (some-height conditions word s) (sym g ∙ e) in
-              judged conditions word taken.meeting ej
-              (λ _. record { ready = h.ready; steps = h.steps; later = h.stepping.later; copies = rw s h.copies })
+              judged conditions word taken ej
+              (λ next o. rw (h.leads next o) (record { ready = h.ready; steps = refl; later = h.stepping.later; copies = rw s h.copies }))
               (λ p st. rw s (reduction_comes (setting_for f conditions) ready (omega arith) h p st height there fitting))
 
 -- the leaf's word can be read
@@ -326,23 +322,23 @@ short f = omega arith
 
 -- an extension
 module _ {f m : List ℕ} {place : Place} (ready : Ready f m place) (conditions : Conditions) (word : ℕ) {clause literal : ℕ} (s : read_for conditions word ≡ step.Extension clause literal) where
-  pub extend_closed : place.head ≡ 0 → Checked f m m conditions place word NotAllowed
+  pub extend_closed : place.head ≡ 0 → Checked f m m conditions place word (Err NotAllowed)
   extend_closed z = closed conditions word (extension-refused conditions word s) z
 
   module _ (n : place.head ≡ 0 → ⊥) where
-    pub extend_over : conditions.bound < copies_of m → Checked f m m conditions place word NotAllowed
+    pub extend_over : conditions.bound < copies_of m → Checked f m m conditions place word (Err NotAllowed)
     extend_over h =
         unallowed conditions word (extension-refused conditions word s)
         (λ p st. rw s (extension-over (setting_for f conditions) p.tableau (leaf ready n) (right ready n) (first_leaf ready n p st) clause literal (omega (arith, st.extensions))))
 
-    module _ (q : Candidate) (h : Located f clause literal q) where
-      pub extend_missing : q ≡ Done → Checked f m m conditions place word NotAllowed
+    module _ (q : Option Scan) (h : Located f clause literal q) where
+      pub extend_missing : q ≡ None → Checked f m m conditions place word (Err NotAllowed)
       extend_missing e =
           let gone : (c : Clause) → get_elem? (all_clauses (table_in f)) clause ≡ some c → get_elem? c.literals literal ≡ none = rw e at h in
           unallowed conditions word (extension-refused conditions word s)
           (λ p st. rw s (extension-none (setting_for f conditions) p.tableau (leaf ready n) (right ready n) (first_leaf ready n p st) clause literal gone))
 
-      module _ {scan : Scan} (g : q ≡ Entry scan) where
+      module _ {scan : Scan} (g : q ≡ Some scan) where
         entry : LocatedAt f clause literal scan
         entry = rw g at h
 
@@ -384,7 +380,7 @@ module _ {f m : List ℕ} {place : Place} (ready : Ready f m place) (conditions 
               (fits_by_word (word_at f m (leaf_of m place)) leaf_literate.shaped (small _) (get_or f (scan.start + (scan.at - scan.start)) 0) scan-literal.shaped (small _)
               (fresh (leaf_of m place / 256)) (fresh copy) _ _ (owing_arity leaf_literate.owing) (owing_arity scan-literal.owing) ∙ rw scan-word)
 
-          pub extend_unfit : (get_or f i 0 ≡ w → ⊥) → Checked f m m conditions place word NotAllowed
+          pub extend_unfit : (get_or f i 0 ≡ w → ⊥) → Checked f m m conditions place word (Err NotAllowed)
           unfolding copy_of
           extend_unfit d =
               unallowed conditions word (extension-refused conditions word s)
@@ -407,14 +403,14 @@ module _ {f m : List ℕ} {place : Place} (ready : Ready f m place) (conditions 
                   alike = alike_other _ _ leaf_literate.shaped (small _) entered-sign;
                 }
 
-            pub extend_judged : restarts_leaf f m conditions place ≡ false → {m' : List ℕ} {taken : Taken} → Extended f m m' place scan.start (scan.at - scan.start) word taken
-                → {j : Judged} → j ≡ judged_by taken.meeting taken.place → Checked f m m' conditions place word j
+            pub extend_judged : restarts_leaf f m conditions place ≡ false → {m' : List ℕ} {taken : Result Place Unmet} → Extended f m m' place scan.start (scan.at - scan.start) word taken
+                → {j : Result Place Refusal} → j ≡ judged_by taken → Checked f m m' conditions place word j
             extend_judged let-so {m'} {taken} x ej =
                 let literate = copy_literate scan-literal m' (copies_of m) x.copied.starts in
                 let fitting = fits_other small leaf_literate literate (copy_word scan-literal m' (copies_of m) x.copied.starts ∙ entered-sign) in
                 let may = one_of conditions.restarts (leaf ready n).literal.negative (sym (leaf_let ready n conditions) ∙ let-so) in
-                judged conditions word taken.meeting ej
-                (λ e. record { ready = (x.hung e).ready; steps = (x.hung e).steps; later = x.copied.stepping.later; copies = rw (s, x.copied.starts) (x.copied.copies, scan-clause) })
+                judged conditions word taken ej
+                (λ next o. record { ready = (x.hung next o).ready; steps = (x.hung next o).steps; later = x.copied.stepping.later; copies = rw (s, x.copied.starts) (x.copied.copies, scan-clause) })
                 (λ p st. rw scan_step (extension_comes (setting_for f conditions) ready (omega arith) scan scan_enters x p st (may, omega (arith, st.extensions)) fitting))
 
 -- whether the leaf is restarted, with premises as the code has them
@@ -430,7 +426,7 @@ module _ {f m : List ℕ} {place : Place} (ready : Ready f m place) (conditions 
 
 -- an extension of a leaf that is restarted
 module _ {f m : List ℕ} {place : Place} (ready : Ready f m place) (conditions : Conditions) (word : ℕ) where
-  pub extend_unlet : {clause literal : ℕ} → read_for conditions word ≡ step.Extension clause literal → restarts_leaf f m conditions place ≡ true → Checked f m m conditions place word NotAllowed
+  pub extend_unlet : {clause literal : ℕ} → read_for conditions word ≡ step.Extension clause literal → restarts_leaf f m conditions place ≡ true → Checked f m m conditions place word (Err NotAllowed)
   extend_unlet {clause} {literal} s e =
       let n = leaf_there f m conditions place e in
       let may = other_of conditions.restarts (leaf ready n).literal.negative (sym (leaf_let ready n conditions) ∙ e) in
@@ -439,10 +435,10 @@ module _ {f m : List ℕ} {place : Place} (ready : Ready f m place) (conditions 
 
   -- a restart
   module _ (s : read_for conditions word ≡ step.Restart) where
-    pub restart_unlet_judged : restarts_leaf f m conditions place ≡ false → Checked f m m conditions place word NotAllowed
+    pub restart_unlet_judged : restarts_leaf f m conditions place ≡ false → Checked f m m conditions place word (Err NotAllowed)
     restart_unlet_judged e = go (eqb place.head 0) refl
       where
-        go : (b : Bool) → eqb place.head 0 ≡ b → Checked f m m conditions place word NotAllowed
+        go : (b : Bool) → eqb place.head 0 ≡ b → Checked f m m conditions place word (Err NotAllowed)
         go true z = closed conditions word (restart-refused conditions word s) (eqb-true place.head 0 z)
         go false z =
             let n = eqb-false place.head 0 z in
@@ -453,7 +449,7 @@ module _ {f m : List ℕ} {place : Place} (ready : Ready f m place) (conditions 
       there : place.head ≡ 0 → ⊥
       there = leaf_there f m conditions place e
 
-      pub restart_over_judged : conditions.bound < copies_of m → Checked f m m conditions place word NotAllowed
+      pub restart_over_judged : conditions.bound < copies_of m → Checked f m m conditions place word (Err NotAllowed)
       restart_over_judged h =
           unallowed conditions word (restart-refused conditions word s)
           (λ p st. rw s (restart-over (setting_for f conditions) p.tableau (leaf ready there) (right ready there) (first_leaf ready there p st) (omega (arith, st.extensions))))
@@ -467,7 +463,7 @@ module _ {f m : List ℕ} {place : Place} (ready : Ready f m place) (conditions 
         pub restart_openable : conditions.bound ≤ 32 → Openable f m place question
         restart_openable most = let h = there in record { ready = ready; some_open = omega arith; copies = omega arith; clause = placed.0 }
 
-        pub restart_judged : {m' : List ℕ} {next : Place} → Restarted f m m' place question word next → Checked f m m' conditions place word (On next)
+        pub restart_judged : {m' : List ℕ} {next : Place} → Restarted f m m' place question word next → Checked f m m' conditions place word (Ok next)
         restart_judged {m'} {next} x =
             let h = there in
             let may = sym (leaf_let ready h conditions) ∙ e in

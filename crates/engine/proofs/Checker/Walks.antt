@@ -9,6 +9,7 @@ use native.Mathlib.Omega.{arith}
 use lib.ListN.{length, drop, get_or, get_elem?, drop_of_length-le, length-map}
 use lib.Seq.{drop-cons}
 use Rattle.words.specs.Fields.{kind_of, literals_of}
+use Rattle.table.proofs.Bodies.{seek_laws}
 use Rattle.table.specs.Body.{body_fault, starts}
 use Rattle.table.specs.File.{body_of, judge, table_in}
 use Rattle.table.specs.Readers.{BeginsAt}
@@ -19,8 +20,7 @@ use Rattle.table.proofs.AcceptedTable.{body_readable, question_start}
 use Rattle.table.proofs.BodyDecoding.{clauses_count}
 use Rattle.unification.specs.State.{own_words, ClauseAt}
 use Rattle.index.specs.declared.entries.Scan.{Scan}
-use Rattle.index.specs.declared.entries.Candidate.{Candidate}
-use Rattle.index.specs.declared.entries.Candidate.TheVariants.{Entry, Done}
+use Rattle.std.specs.Prelude.{Option, Some, None}
 use Rattle.index.specs.Scanning.{IsEntry}
 use Rattle.tableaux.specs.Leaves.{literal_offsets, offsets_at}
 use Rattle.tableaux.specs.Entering.{literal_from, LiteralAt}
@@ -111,11 +111,11 @@ module _ (f : List ℕ) (z : (judge f).status ≡ 0) where
 
   module _ (clause literal : ℕ) where
     -- by the notes
-    pub walk_noted : (q : Candidate) → IsEntry (body_of f) clause literal q → Located f clause literal q
-    walk_noted (Entry s) e = record { enters = rw (question_start f z) at (entry_enters f (length f - 4) whole (body_readable f z) e); clauses = e.clauses; literals = e.literals }
-    walk_noted Done e = entry_none f (length f - 4) whole (body_readable f z) clause literal e
+    pub walk_noted : (q : Option Scan) → IsEntry (body_of f) clause literal q → Located f clause literal q
+    walk_noted (Some s) e = record { enters = rw (question_start f z) at (entry_enters f (length f - 4) whole (body_readable f z) e); clauses = e.clauses; literals = e.literals }
+    walk_noted None e = entry_none f (length f - 4) whole (body_readable f z) clause literal e
 
-    pub walk_beyond : get_or f (length f - 4 + 1) 0 ≤ clause → Located f clause literal Done
+    pub walk_beyond : get_or f (length f - 4 + 1) 0 ≤ clause → Located f clause literal None
     walk_beyond h c e = absurd (omega (arith, some_length (all_clauses (table_in f)) clause e, table-size, (accepted f z).count))
 
     module _ (h : clause < get_or f (length f - 4 + 1) 0) where
@@ -138,7 +138,7 @@ module _ (f : List ℕ) (z : (judge f).status ≡ 0) where
         pub walk_inside : start < length f
         walk_inside = numbered.0.inside
 
-        pub walk_short : {n : ℕ} → n ≡ literals_of (get_or f start 0) → n ≤ literal → Located f clause literal Done
+        pub walk_short : {n : ℕ} → n ≡ literals_of (get_or f start 0) → n ≤ literal → Located f clause literal None
         walk_short el few c e =
             let same : clause_of (own_words f start) ≡ c = the_same (sym numbered.1 ∙ e) in
             let count : length (clause_of (own_words f start)).literals ≡ length (offsets_at f start) =
@@ -177,3 +177,8 @@ module _ (f : List ℕ) (z : (judge f).status ≡ 0) where
                   clauses = refl;
                   literals = refl;
                 }
+
+-- the first words of clauses
+pub ruleset start_laws = (seek_laws)
+
+pub ruleset walk_laws = (walk_least, walk_most, walk_beyond, walk_asks, walk_inside, walk_short, walk_some, walk_fits, walk_found)

@@ -19,8 +19,7 @@ use Rattle.table.specs.Limits.{Readable}
 use Rattle.table.proofs.Decoding.{literals_literal, literals_other}
 use Rattle.rules.proofs.Lists.{none_some}
 use Rattle.index.specs.declared.entries.Scan.{Scan}
-use Rattle.index.specs.declared.entries.Candidate.{Candidate}
-use Rattle.index.specs.declared.entries.Candidate.TheVariants.{Entry, Done}
+use Rattle.std.specs.Prelude.{Option, Some, None}
 use Rattle.index.specs.Scanning.{begun, past_word, is_entry, entry_from}
 use Rattle.index.proofs.Scans.{past_clause, past_literal, past_other}
 use Rattle.engine.proofs.Literals.Sound.{Sound, variable, function, literal, sound_word, sound_clause, first_clause}
@@ -33,7 +32,7 @@ module _ (clause number : ℕ) where
     pub later : (i : ℕ) → s.clauses + i ≡ clause → (c : Clause) → get_elem? (map clause_of (parts_from n ws)) i ≡ some c → get_elem? c.literals number ≡ none
 
   -- what is left after a word at which the scan has not stopped
-  passed_by : (b : Bool) (s : Scan) (r : Candidate) → cond b (Entry s) r ≡ Done → (b ≡ false) × (r ≡ Done)
+  passed_by : (b : Bool) (s : Scan) (r : Option Scan) → cond b (Some s) r ≡ None → (b ≡ false) × (r ≡ None)
   passed_by true s r e = let z : ◌≡◌ {A = ℕ} 0 1 = cc in absurd (omega arith)
   passed_by false s r e = (refl, e)
 
@@ -83,10 +82,10 @@ module _ (clause number : ℕ) where
 
   abbrev Lacking : List ℕ → Type 0
   Lacking ws =
-      (n v l t place at : ℕ) (s : Scan) → fault v l t place (take n ws) ≡ none → body_fault at n ws ≡ none → entry_from clause number s ws ≡ Done → Lacks n ws s
+      (n v l t place at : ℕ) (s : Scan) → fault v l t place (take n ws) ≡ none → body_fault at n ws ≡ none → entry_from clause number s ws ≡ None → Lacks n ws s
 
   lacking_sound : (v place w : ℕ) (ws : List ℕ) (n : ℕ) {l t : ℕ} → Lacking ws → Sound v place w (take n ws) l t → (at : ℕ) (s : Scan) → body_fault at n ws ≡ none
-      → is_entry clause number s w ≡ false → entry_from clause number (past_word s w) ws ≡ Done → Lacks (suc n) (w ∷ ws) s
+      → is_entry clause number s w ≡ false → entry_from clause number (past_word s w) ws ≡ None → Lacks (suc n) (w ∷ ws) s
   lacking_sound v place w ws n more (variable {l} {t} k e) at s b other d =
       lacks_term w ws n s (λ p. omega arith) (λ p. omega arith) (more n v l t (place + 1) at (past_word s w) e b d)
   lacking_sound v place w ws n more (function {l} {t} k e) at s b other d =
@@ -108,7 +107,7 @@ module _ (clause number : ℕ) where
       lacks_clause w ws s (plain_kind 3 17 w (clause_plain w sound.shaped))
       (lacking ws (following_of w) (variables_of w) (literals_of w) 0 1 (at + 1) (past_word s w) sound.sound first.1 gone.1)
 
-  pub no_entry : (body : List ℕ) → Readable body → entry_from clause number begun body ≡ Done
+  pub no_entry : (body : List ℕ) → Readable body → entry_from clause number begun body ≡ None
       → (c : Clause) → get_elem? (all_clauses (table_of body)) clause ≡ some c → get_elem? c.literals number ≡ none
   unfolding clauses_of fault stops_short
   no_entry body r d c e =

@@ -11,17 +11,16 @@ use Rattle.words.specs.Fields.{kind_of, arity_of, literal_shaped}
 use Rattle.words.proofs.Packed.{bits_small}
 use Rattle.table.specs.Syntax.{Term, literal_under, Clause, all_clauses}
 use Rattle.table.specs.Body.{starts, last_of}
-use Rattle.table.specs.Decode.{terms_from, clause_of, clauses_of, table_of}
+use Rattle.table.specs.Decode.{terms_from, clauses_of, table_of}
 use Rattle.table.specs.Limits.{Words, Readable}
 use Rattle.table.proofs.BodyDecoding.{clauses_count}
 use Rattle.rules.specs.Substitution.{Variable}
 use Rattle.rules.specs.Order.{extensions}
-use Rattle.unification.specs.State.{own_words}
 use Rattle.index.specs.declared.entries.Scan.{Scan}
-use Rattle.index.specs.declared.entries.Candidate.TheVariants.{Done}
+use Rattle.std.specs.Prelude.{None}
 use Rattle.tableaux.specs.Leaves.{offsets_at}
 use Rattle.index.specs.Scanning.{begun, entries_from, Standing, entry_from, EntryAt, other_sign}
-use Rattle.tableaux.specs.Entering.{extension_at, literal_from, LiteralAt, Enters, Owes}
+use Rattle.tableaux.specs.Entering.{extension_at, literal_from, Enters, Owes}
 use Rattle.index.specs.Noting.{Few}
 use Rattle.engine.proofs.Literals.Sound.{owing_arity}
 use Rattle.engine.proofs.Literals.Places.{table_clauses, some_length}
@@ -46,7 +45,7 @@ module _ (f : List ℕ) (n : ℕ) (fits : n ≤ length f) (r : Readable (take n 
     pub entry_enters : Enters f (table_of (take n f)) (last_of 0 (starts 0 0 (take n f))) s
     entry_enters = enters f n fits r e.standing e.inside e.kind
 
-  pub entry_none : (clause number : ℕ) → entry_from clause number begun (take n f) ≡ Done → (c : Clause) → get_elem? (all_clauses (table_of (take n f))) clause ≡ some c
+  pub entry_none : (clause number : ℕ) → entry_from clause number begun (take n f) ≡ None → (c : Clause) → get_elem? (all_clauses (table_of (take n f))) clause ≡ some c
       → get_elem? c.literals number ≡ none
   entry_none clause number d c e = no_entry clause number (take n f) r d c e
 

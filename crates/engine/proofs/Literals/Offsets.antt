@@ -1,7 +1,7 @@
 -- The literals of a clause by their offsets among its words.
-use mathlib.Core.Path.{◌≡◌, refl, sym, ap, ◌∙◌}
+use mathlib.Core.Path.{◌≡◌, refl, ◌∙◌}
 use mathlib.Core.Bool.{Bool, true, false}
-use mathlib.Core.List.{List, [], ◌∷◌, ◌++◌, map}
+use mathlib.Core.List.{List, [], ◌∷◌, map}
 use mathlib.Core.Option.{none, some}
 use Prim.Native.Nat.{ℕ, zero, suc, ◌+◌, ◌≤◌, ◌<◌}
 use native.Mathlib.Nat.{add-zero}
@@ -21,7 +21,7 @@ use Rattle.rules.proofs.Lists.{map_some}
 use Rattle.unification.specs.State.{own_words, ClauseAt}
 use Rattle.tableaux.specs.Leaves.{literal_offsets, offsets_at}
 use Rattle.tableaux.specs.Entering.{literal_from, LiteralAt, Owes}
-use Rattle.engine.proofs.Literals.Sound.{Sound, variable, function, literal, sound_word, nothing_owed, SoundClause, sound_clause}
+use Rattle.engine.proofs.Literals.Sound.{Sound, variable, function, literal, sound_word, SoundClause, sound_clause}
 use Rattle.engine.proofs.Literals.Places.{place_word, place_next, place_inside}
 
 module _ (k w : ℕ) (ws : List ℕ) where

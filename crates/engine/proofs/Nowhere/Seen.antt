@@ -9,26 +9,25 @@ use borrow.Author.Tests.{eq-eqb, ne_eqb, eqb-true, eqb-false, ltb-true, ltb-fals
 use lib.Dec.{eqb, ltb}
 use lib.ListN.{length, drop, get_or, drop_of_length-le}
 use lib.Seq.{drop-cons}
-use Rattle.words.specs.Fields.{kind_of, arity_of, symbol_of, literals_of, variables_of}
+use Rattle.words.specs.Fields.{kind_of, arity_of, literals_of, variables_of}
 use Rattle.words.specs.declared.Step.{Step}
 use Rattle.table.specs.Decode.{first}
 use Rattle.rules.proofs.Lists.{All}
 use Rattle.rules.specs.Machinery.Unify.{follow}
-use Rattle.rules.specs.Machinery.Play.{Play}
 use Rattle.unification.specs.Places.{most_leaves, work_words}
-use Rattle.unification.specs.State.{start_at, copies_of, literal_at, parent_at, own_words, terms_of, term_of, bindings_in, Points}
+use Rattle.unification.specs.State.{copies_of, literal_at, parent_at, own_words, terms_of, term_of, Points}
 use Rattle.unification.specs.Good.{word_at, Inside, Good, LiteralStands, FollowedTo}
 use Rattle.unification.proofs.Atoms.{literal_ahead}
 use Rattle.unification.proofs.References.{function_term, function_arity, function_shape, points_fewer, points_inside}
 use Rattle.index.specs.Scanning.{other_sign}
 use Rattle.tableaux.specs.Leaves.{chain, hangs, hanging}
-use Rattle.tableaux.specs.Ready.{open_leaves, Noted, Ready, leaf_of, rest_of, Extensible, hanging_at}
+use Rattle.tableaux.specs.Ready.{open_leaves, Noted, leaf_of, rest_of, Extensible, hanging_at}
 use Rattle.tableaux.specs.declared.tableau.Place.{Place}
 use Rattle.tableaux.proofs.Chains.{chain_at, chain_past, chain_none}
 use Rattle.tableaux.proofs.Hanging.{own_small, own_inside, own_word}
 use Rattle.tableaux.proofs.Literals.{ReadsOn, hanging_fewer, clause_some, clause_hanging}
-use Rattle.engine.specs.Searching.{without, room_at, Treats, Against, Allows, Again, step_by, Attempted}
-use Rattle.engine.specs.Nowhere.{words_up, among, stuck_at, dead_end_by, dead_end, clashing, Opens, Opening, Parted, Vain}
+use Rattle.engine.specs.Searching.{without, Treats, Against, Allows, Again, step_by, Attempted}
+use Rattle.engine.specs.Nowhere.{words_up, among, stuck_at, dead_end_by, dead_end, clashing, Opening, Parted, Vain}
 use Rattle.engine.specs.declared.search.Ending.TheVariants.{Nothing}
 use Rattle.engine.specs.declared.search.Move.{Move}
 use Rattle.engine.specs.declared.search.Move.TheVariants.{Reduce, Enter}
@@ -294,9 +293,9 @@ unfolding clashing
 clash_variable s w ek n = rw (ne_eqb (kind_of s) 1 (λ e. n (ek ∙ e)))
 
 module _ (f : List ℕ) (s : ℕ) {k at a j : ℕ} (ek : k ≡ kind_of s) (e : k ≡ 1) (ea : a ≡ at) (ej : j ≡ kind_of (get_or f (a + 1) 0)) where
-  pub clash_plain : (j ≡ 1 → ⊥) → false ≡ clashing s (get_or f (at + 1) 0)
+  pub clash_plain : (j ≡ 1 → ⊥) → eqb j 1 ≡ clashing s (get_or f (at + 1) 0)
   unfolding clashing
-  clash_plain n = rw (← ea, eq-eqb (kind_of s) 1 (sym ek ∙ e), ne_eqb (kind_of (get_or f (a + 1) 0)) 1 (λ d. n (ej ∙ d)))
+  clash_plain n = rw (← ea, eq-eqb (kind_of s) 1 (sym ek ∙ e), ← ej, ne_eqb j 1 n)
 
   pub clash_told : j ≡ 1 → not (eqb (get_or f (a + 1) 0) s) ≡ clashing s (get_or f (at + 1) 0)
   unfolding clashing
@@ -377,3 +376,5 @@ module _ {f m : List ℕ} {task : Task} {place : Place} (treats : Treats f m tas
 
 pub seen_not : {f m : List ℕ} {task : Task} {place : Place} {candidate : Move} → false ≡ true → Vain f m task place candidate
 seen_not e = let z : ◌≡◌ {A = ℕ} 0 1 = cc in absurd (omega arith)
+
+pub ruleset seen_laws = (seen_inside, seen_clash, seen_end, seen_not)

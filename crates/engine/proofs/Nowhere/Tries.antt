@@ -13,7 +13,7 @@ use Rattle.words.specs.Fields.{kind_of, symbol_of, arity_of, variables_of, funct
 use Rattle.words.proofs.Packed.{function_word_lem}
 use Rattle.words.specs.declared.Step.{Step}
 use Rattle.words.specs.declared.Step.TheVariants.{Reduction}
-use Rattle.table.specs.Syntax.{Term, Terms, Literal, Clause, app, ◌then◌, arity}
+use Rattle.table.specs.Syntax.{Term, Terms, Literal, Clause, app, arity}
 use Rattle.table.specs.Decode.{first, rest, clause_of}
 use Rattle.rules.specs.Setting.{Setting}
 use Rattle.rules.specs.Substitution.{Variable}
@@ -37,7 +37,7 @@ use Rattle.unification.proofs.References.{first_terms, points_fewer, points_insi
 use Rattle.index.specs.Scanning.{other_sign}
 use Rattle.index.specs.declared.entries.Scan.{Scan}
 use Rattle.tableaux.specs.Leaves.{chain, literal_of_leaf, leaf_at, leaves_from}
-use Rattle.tableaux.specs.Ready.{Ready, Stands, Alike, leaf_of, rest_of, hanging_at}
+use Rattle.tableaux.specs.Ready.{Stands, Alike, leaf_of, rest_of, hanging_at}
 use Rattle.tableaux.specs.Entering.{Enters, extension_at}
 use Rattle.tableaux.specs.declared.tableau.Place.{Place}
 use Rattle.tableaux.proofs.Chains.{chain_at, chain_past}
@@ -47,7 +47,7 @@ use Rattle.engine.specs.Searching.{table_at, setting_at, question_at, leaf_treat
 use Rattle.engine.specs.Nowhere.{words_up, among, stuck_at, dead_end_by, dead_end, Opens, Parted, Vain}
 use Rattle.engine.specs.declared.search.Move.TheVariants.{Reduce, Enter}
 use Rattle.engine.specs.declared.search.Task.{Task}
-use Rattle.engine.proofs.Performed.{chain_first, open_first, performs, reduced_to, reduction_performs, Small, Literate, stands_literate, copy_word, copy_literate, alike_other, fits_at, fits_other}
+use Rattle.engine.proofs.Performed.{chain_first, open_first, performs, reduced_to, reduction_performs, Literate, stands_literate, copy_word, copy_literate, alike_other, fits_at, fits_other}
 
 -- a step that fails, or comes to an open leaf without candidates
 abbrev Stuck : Setting → Performed → Type 0

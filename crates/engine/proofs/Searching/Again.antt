@@ -11,7 +11,6 @@ use lib.Seq.{get_or-set_same, get_or-set_other}
 use Rattle.rules.specs.Machinery.Play.{Play}
 use Rattle.rules.specs.Tableau.{Leaf}
 use Rattle.rules.proofs.Unify.Tests.{never}
-use Rattle.rules.proofs.Unify.Solution as bindings
 use Rattle.unification.specs.Places.{most_variables, most_leaves, value_places, value_end, literal_places, parent_places, next_places, step_places, number_places, count_place, trail_places, work_words, most_copies, copies_place, start_places}
 use Rattle.unification.specs.State.{start_at, copies_of, count_of, trail_at, bound_at, words_at, term_of, Points, bindings_of, bindings_in}
 use Rattle.unification.specs.Good.{LiteralStands, Entry, Held, Good, Undone}

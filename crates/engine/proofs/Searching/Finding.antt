@@ -1,12 +1,10 @@
 -- The search of an accepted file: what it begins with, and what it comes to.
 use mathlib.Core.Bool.{Bool, true, false, and-eq-true_iff}
-use mathlib.Core.Logic.{◌⊎◌, inl, inr}
-use mathlib.Core.Path.{◌≡◌, refl, sym, ap, ◌∙◌}
-use denote.Enum.Declared.{tag_of, declared}
+use mathlib.Core.Path.{◌≡◌, sym, ap, ◌∙◌}
 use mathlib.Core.List.{List, [], ◌∷◌}
 use Prim.Native.Nat.{ℕ, ◌+◌, ◌-◌, ◌/◌, ◌^◌, ◌≤◌, ◌<◌}
 use native.Mathlib.Omega.{arith}
-use borrow.Author.Tests.{eq-eqb, ne_eqb, eqb-true, lt-ltb, le-ltb, ltb-false}
+use borrow.Author.Tests.{eq-eqb, eqb-true, ltb-false}
 use lib.Dec.{eqb, ltb}
 use lib.ListN.{length, take, get_or, set}
 use lib.Seq.{get_or-set_same}
@@ -25,7 +23,6 @@ use Rattle.rules.proofs.Demands.{passed_closed, proof_is_short, larger_budget}
 use Rattle.rules.proofs.Search.{any_depth_says, steps_left_few}
 use Rattle.unification.specs.Places.{most_leaves, step_places, work_words}
 use Rattle.engine.specs.Ended.{setting_for}
-use Rattle.engine.specs.Ended as ended
 use Rattle.unification.specs.State.{start_at, copies_of, ClauseAt, bindings_of}
 use Rattle.tableaux.specs.Leaves.{questions_among}
 use Rattle.tableaux.specs.Ready.{open_leaves, Stands, NotesKept, Begun}
@@ -40,7 +37,6 @@ use Rattle.engine.specs.declared.search.Ending.TheVariants.{Found, Nothing, Out}
 use Rattle.engine.specs.declared.search.Searched.{Searched}
 use Rattle.engine.specs.declared.search.Task.{Task}
 use Rattle.tableaux.specs.declared.tableau.Place.{Place}
-use Rattle.engine.specs.contracts.search.Ending.{enum as ending}
 use Rattle.engine.proofs.Literals.Places.{question_placed}
 
 longest : (restarts : Bool) → longest_proof (profile_of restarts) ≤ most_leaves
@@ -164,30 +160,8 @@ module _ {f m₀ m : List ℕ} {question : ℕ} {conditions : Conditions} {budge
 
 -- the tries of a search by scans
 module _ (body budget : ℕ) where
-  pub early_all : budget < body / 8 → budget ≡ early_tries body budget
-  early_all h = rw (lt-ltb budget (body / 8) h)
-
-  pub early_most : body / 8 ≤ budget → body / 8 ≡ early_tries body budget
-  early_most h = rw (le-ltb budget (body / 8) h)
-
   pub early_within : {most : ℕ} → most ≡ early_tries body budget → most ≤ budget
   early_within e = rw e (decide (ltb budget (body / 8)) (λ b. rw b (omega arith)) (λ b. rw b (ltb-false budget (body / 8) b)))
-
--- whether a search by scans is settled, by how it ended
-module _ (left most budget : ℕ) where
-  pub settled_other : (e : Ending) → (e ≡ Out → ⊥) → true ≡ settled_by e left most budget
-  unfolding settled_by
-  settled_other Found h = refl
-  settled_other Nothing h = refl
-  settled_other Out h = absurd (h refl)
-
-  pub settled_left : {e : Ending} → e ≡ Out → (left ≡ 0 → ⊥) → false ≡ settled_by e left most budget
-  unfolding settled_by
-  settled_left z n = rw (z, ne_eqb left 0 n)
-
-  pub settled_out : {e : Ending} → e ≡ Out → left ≡ 0 → eqb most budget ≡ settled_by e left most budget
-  unfolding settled_by
-  settled_out z n = rw (z, eq-eqb left 0 n)
 
 -- a search with fewer tries that is settled is the search with the whole budget
 module _ {f m₀ m : List ℕ} {question : ℕ} {conditions : Conditions} {most budget : ℕ} {first : Searched} (ran : Ran f m₀ m question conditions most first)

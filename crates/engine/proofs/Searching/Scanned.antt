@@ -1,28 +1,27 @@
 -- What a scan for the next literal with a word passes, and what the scans of a search cost.
-use mathlib.Core.Bool.{Bool, true, false}
+use mathlib.Core.Bool.{Bool, true, false, not}
 use mathlib.Core.Path.{◌≡◌, sym, ◌∙◌}
 use mathlib.Core.List.{List}
 use Prim.Native.Nat.{ℕ, ◌+◌, ◌-◌, ◌≤◌, ◌<◌}
 use native.Mathlib.Omega.{arith}
 use borrow.Author.Tests.{eq-eqb, ne_eqb, lt-ltb, le-ltb}
-use lib.Dec.{leb}
+use lib.Dec.{eqb, leb}
 use lib.ListN.{length, take, get_or, set}
 use Rattle.index.specs.Places.{scanned_place}
 use Rattle.index.specs.Scanning.{Standing, IsNext}
 use Rattle.index.specs.declared.entries.Scan.{Scan}
-use Rattle.index.specs.declared.entries.Candidate.{Candidate}
-use Rattle.index.specs.declared.entries.Candidate.TheVariants.{Entry, Done}
+use Rattle.std.specs.Prelude.{Option, Some, None}
 use Rattle.index.proofs.Scans.{body_length, standing_most}
 use Rattle.engine.specs.Searching.{reached_by, costing, gives_up}
 
 module _ (f : List ℕ) (body wanted : ℕ) (from : Scan) (fits : body ≤ length f) (standing : Standing (take body f) from) where
-  pub reach_least : (found : Candidate) → IsNext (take body f) wanted from found → from.at ≤ reached_by found body
-  reach_least (Entry s) next = next.later
-  reach_least Done none = standing_most f body fits standing
+  pub reach_least : (found : Option Scan) → IsNext (take body f) wanted from found → from.at ≤ reached_by found body
+  reach_least (Some s) next = next.later
+  reach_least None none = standing_most f body fits standing
 
-  pub reach_most : (found : Candidate) → IsNext (take body f) wanted from found → reached_by found body ≤ body
-  reach_most (Entry s) next = omega (arith, next.inside, body_length f body fits)
-  reach_most Done none = omega arith
+  pub reach_most : (found : Option Scan) → IsNext (take body f) wanted from found → reached_by found body ≤ body
+  reach_most (Some s) next = omega (arith, next.inside, body_length f body fits)
+  reach_most None none = omega arith
 
 module _ (m : List ℕ) (limit : ℕ) where
   pub costs_more : {come reached : ℕ} (at : ℕ) → come ≡ reached → get_or m scanned_place 0 < limit
@@ -36,9 +35,13 @@ module _ (m : List ℕ) (limit : ℕ) where
 
 -- whether a search by scans is given up
 module _ (m : List ℕ) (limit left : ℕ) where
-  pub goes_on_out : left ≡ 0 → false ≡ gives_up m limit left
+  goes_on_out : left ≡ 0 → false ≡ gives_up m limit left
   unfolding gives_up
   goes_on_out z = rw (eq-eqb left 0 z)
+
+  pub gives_up_out : left ≡ 0 → not (eqb left 0) ≡ gives_up m limit left
+  unfolding gives_up
+  gives_up_out z = rw (eq-eqb left 0 z)
 
   pub gives_up_lem : (left ≡ 0 → ⊥) → leb limit (get_or m scanned_place 0) ≡ gives_up m limit left
   unfolding gives_up

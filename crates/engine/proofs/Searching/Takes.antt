@@ -12,15 +12,15 @@ use Rattle.rules.specs.Tableau.{Leaf, hang}
 use Rattle.unification.specs.State.{copies_of, own_words, ClauseAt}
 use Rattle.unification.specs.Good.{word_at}
 use Rattle.tableaux.specs.Leaves.{leaves_from}
-use Rattle.tableaux.specs.Ready.{open_leaves, leaf_of, rest_of, Alike, Reducible, Reduced, Openable, Extensible, OneMore, Hung, Extended, Restarted, hanging_at}
+use Rattle.tableaux.specs.Ready.{closed_at, open_leaves, leaf_of, rest_of, Alike, Reducible, Reduced, Openable, Extensible, OneMore, Hung, Extended, Restarted, hanging_at}
 use Rattle.tableaux.specs.Entering.{Enters, extension_at}
 use Rattle.engine.specs.Searching.{table_at, setting_at, question_at, Treats, Wanted, Against, Allows, Onward, Takes}
 use Rattle.index.specs.declared.entries.Scan.{Scan}
 use Rattle.engine.specs.declared.search.Move.TheVariants.{Reduce, Enter, Renew}
 use Rattle.engine.specs.declared.search.Task.{Task}
 use Rattle.tableaux.specs.declared.tableau.Place.{Place}
-use Rattle.tableaux.specs.declared.tableau.Taken.{Taken}
-use Rattle.unification.specs.declared.unify.Meeting.TheVariants.{Made}
+use Rattle.std.specs.Prelude.{Result, Ok}
+use Rattle.unification.specs.declared.unify.Unmet.{Unmet}
 use Rattle.engine.proofs.Performed.{open_first, Literate, stands_literate, copy_word, copy_literate, alike_other, fits_other, reduction_comes, extension_comes, restart_comes}
 use Rattle.tableaux.proofs.Literals.{hanging_fewer, hanging_all, clause_few}
 use Rattle.engine.proofs.Literals.Entries.{clause_small, literal_small}
@@ -65,15 +65,15 @@ module _ {f m : List ℕ} {task : Task} {place : Place} (treats : Treats f m tas
     pub reduces : Reducible f m place literal
     reduces = record { ready = treats.ready; some_open = some_open; stands = against.stands; alike = alike (word_at f m literal) against.word }
 
-    module _ {m' : List ℕ} {r : Taken} (reduced : Reduced f m m' place literal height r) where
-      reduced_onward : Onward f m m' task place r.place
+    module _ {m' : List ℕ} {r : Result Place Unmet} (reduced : Reduced f m m' place literal height r) where
+      reduced_onward : Onward f m m' task place (closed_at m place)
       reduced_onward =
-          let fewer : length (open_leaves f m' r.place) ≡ length others = ap length reduced.leaves in
+          let fewer : length (open_leaves f m' (closed_at m place)) ≡ length others = ap length reduced.leaves in
           let n = one-open in
           record {
             ready = reduced.ready;
-            leaves = omega (arith, reduced.ready.taken, treats.ready.taken, reduced.steps);
-            steps = reduced.steps;
+            leaves = omega (arith, reduced.ready.taken, treats.ready.taken);
+            steps = omega arith;
             falls = omega (arith, reduced.copies);
           }
 
@@ -86,7 +86,7 @@ module _ {f m : List ℕ} {task : Task} {place : Place} (treats : Treats f m tas
             noted = reduced.stepping.noted;
             comes = λ p stands. reduction_comes (setting_at f task) treats.ready some_open reduced p stands height against.there
                 (fits_other treats.asked.small leaf_literate (stands_literate f m literal against.stands) against.word);
-            onward = λ e. reduced_onward;
+            onward = λ next e. rw (reduced.leads next e) reduced_onward;
           }
 
   module _ {scan : Scan} (allows : Allows f m task place (Enter scan)) where
@@ -122,7 +122,7 @@ module _ {f m : List ℕ} {task : Task} {place : Place} (treats : Treats f m tas
           lt-ltb scan.literals 8 (omega (arith, literal_small f task.body treats.asked.fits treats.asked.readable enters)),
         )
 
-    module _ {m' : List ℕ} {step : ℕ} {r : Taken} (written : step ≡ encoded (extension_at scan)) (extended : Extended f m m' place scan.start offset step r) where
+    module _ {m' : List ℕ} {step : ℕ} {r : Result Place Unmet} (written : step ≡ encoded (extension_at scan)) (extended : Extended f m m' place scan.start offset step r) where
       pub takes_extension : Takes f m m' task place (Enter scan) r
       takes_extension =
           let few : length (hanging_at f scan.start offset) ≤ 7 = omega (arith, hanging_fewer enters.begins scan.literals enters.offset, clause_few enters.begins) in
@@ -132,7 +132,7 @@ module _ {f m : List ℕ} {task : Task} {place : Place} (treats : Treats f m tas
             noted = extended.copied.stepping.noted ∙ written ∙ step_noted;
             comes = λ p stands. extension_comes (setting_at f task) treats.ready some_open scan enters extended p stands (allows.3, omega (arith, stands.extensions, allows.2))
                 (fits_other treats.asked.small leaf_literate (copy_literate enters.literal m' (copies_of m) extended.copied.starts) (copy_word enters.literal m' (copies_of m) extended.copied.starts ∙ ap (λ (k : ℕ). get_or f k 0) entered_at ∙ allows.1));
-            onward = λ e. hung-onward extended.copied (extended.hung e) few allows.2;
+            onward = λ next e. hung-onward extended.copied (extended.hung next e) few allows.2;
           }
 
   module _ (allows : Allows f m task place Renew) where
@@ -149,7 +149,7 @@ module _ {f m : List ℕ} {task : Task} {place : Place} (treats : Treats f m tas
       unfolding encoded well_formed
       step_written = written
 
-      pub takes_restart : Takes f m m' task place Renew (record { meeting = Made; place = next })
+      pub takes_restart : Takes f m m' task place Renew (Ok next)
       takes_restart =
           record {
             good = restarted.copied.stepping.good;
@@ -157,5 +157,5 @@ module _ {f m : List ℕ} {task : Task} {place : Place} (treats : Treats f m tas
             noted = restarted.copied.stepping.noted ∙ step_written;
             comes = λ p stands. rw (← treats.asked.asks)
                 (restart_comes (setting_at f task) treats.ready some_open asked.0 asked.1 restarted p (rw treats.asked.asks stands) (allows.1, omega (arith, stands.extensions, allows.0)));
-            onward = λ e. hung-onward restarted.copied restarted.hung (omega (arith, hanging_all asked.0, clause_few asked.0)) allows.0;
+            onward = λ other e. let same : next ≡ other = cc in rw (← same) (hung-onward restarted.copied restarted.hung (omega (arith, hanging_all asked.0, clause_few asked.0)) allows.0);
           }

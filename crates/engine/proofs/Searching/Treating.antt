@@ -17,9 +17,9 @@ use Rattle.table.proofs.BodyDecoding.{each_take}
 use Rattle.rules.specs.Setting.{profile_of}
 use Rattle.rules.specs.Order.{all_closed, candidates, candidates_at, extensions}
 use Rattle.rules.specs.Machinery.Play.{Play, at_end, check_from, plays}
-use Rattle.rules.specs.Machinery.Run.{Result, no_way, after, search, row}
+use Rattle.rules.specs.Machinery.Run.{Result, after, search, row}
 use Rattle.rules.specs.Tableau.{Leaf, fresh}
-use Rattle.rules.proofs.System.Steps.{search_done, search_open, row_end}
+use Rattle.rules.proofs.System.Steps.{search_done, search_open}
 use Rattle.unification.specs.Places.{most_leaves, work_words}
 use Rattle.unification.specs.State.{start_at, copies_of, next_at, words_at, literal_at_reference}
 use Rattle.unification.specs.Good.{word_at, Inside}
@@ -30,8 +30,7 @@ use Rattle.index.specs.Scanning.{begun, past_word, entries_from, Standing, NextE
 use Rattle.tableaux.specs.Entering.{extension_at}
 use Rattle.engine.specs.Searching.{without, table_at, setting_at, question_at, room_at, Treats, Wanted, leaf_treated, extends_at, restarts_at, Allows, Again, Leaves, Tells, Treated, Attempted, Rowed, reductions_at, extensions_at, further_at, extensions_from, extensions_ahead, reached_by, costing}
 use Rattle.index.specs.declared.entries.Scan.{Scan}
-use Rattle.index.specs.declared.entries.Candidate.{Candidate}
-use Rattle.index.specs.declared.entries.Candidate.TheVariants.{Entry, Done}
+use Rattle.std.specs.Prelude.{Option, Some, None}
 use Rattle.engine.specs.declared.search.Ending.{Ending}
 use Rattle.engine.specs.declared.search.Ending.TheVariants.{Found, Nothing, Out}
 use Rattle.engine.specs.declared.search.Move.TheVariants.{Enter, Renew}
@@ -273,19 +272,19 @@ module _ {f m : List ℕ} {task : Task} {place : Place} (treats : Treats f m tas
         pub scan_asks : (length m₁ ≡ work_words) × (task.body ≤ length f) × (task.body ≤ 16000) × (kind_of wanted ≡ 2) × Standing (take task.body f) scan
         scan_asks = (rowing.again.good.size, treats.asked.fits, treats.asked.short, kind, standing)
 
-        module _ (found : Candidate) {m₂ : List ℕ} (so : IsNext (take task.body f) wanted scan found × (m₂ ≡ costing m₁ task.body (reached_by found task.body - scan.at))) where
+        module _ (found : Option Scan) {m₂ : List ℕ} (so : IsNext (take task.body f) wanted scan found × (m₂ ≡ costing m₁ task.body (reached_by found task.body - scan.at))) where
           pub scan_again : Again f m m₂ place
           scan_again = again_then rowing.again (counted_again (ready_again treats.ready rowing.again) _ _ so.1)
 
           scan_kept : Rowing f m m₂ task place tries left all (extensions_from f task wanted scan)
           scan_kept = record { again = scan_again; within = rowing.within; same = rowing.same }
 
-          pub scan_end : found ≡ Done → {r : Searched} → r ≡ without Nothing left → Rowed f m m₂ task place tries r all
+          pub scan_end : found ≡ None → {r : Searched} → r ≡ without Nothing left → Rowed f m m₂ task place tries r all
           scan_end is er =
               let none : entries_from wanted scan (drop scan.at (take task.body f)) ≡ [] = rw is at so.0 in
               rowing_end treats (rowing_by treats (ap (map extension_at) none) scan_kept) er
 
-          module _ {entry : Scan} (is : found ≡ Entry entry) where
+          module _ {entry : Scan} (is : found ≡ Some entry) where
             next : NextEntry (take task.body f) wanted scan entry
             next = rw is at so.0
 

@@ -1,4 +1,4 @@
-use mathlib.Core.Path.{◌∙◌}
+use mathlib.Core.Path.{sym, ◌∙◌}
 use native.Mathlib.Omega.{arith}
 use borrow.Author.Rules.{rules}
 use Rattle.season.proofs.Memory.{words_of, table_long, own_counts, own_fits, own_begins}
@@ -13,11 +13,11 @@ slice-aggregate-own c = own_counts c.args.table.now c.requires.0 (c.wide.ensures
 
 append-requires : tie.Need-append-requires
 append-requires c κs =
-    own_fits c.args.table.now c.requires.0 (c.wide.ensures ∙ c.trailer.ensures) c.file_buffer-file.result c.file_buffer-file.ensures
+    own_fits c.args.table.now c.requires.0 (c.wide.ensures ∙ c.trailer.ensures) c.filled-file.result (sym c.filled-file.ensures.1)
 
 ask-all-requires : tie.Need-ask_all-requires
 ask-all-requires c κs =
-    (own_begins c.args.table.now c.requires.0 (c.wide.ensures ∙ c.trailer.ensures) c.file_buffer-file.result c.file_buffer-file.ensures (words_of _ c.shared_slice_known-1.given) c.append.ensures c.of_words-begun.ensures, c.requires.1, c.requires.2)
+    (own_begins c.args.table.now c.requires.0 (c.wide.ensures ∙ c.trailer.ensures) c.filled-file.result (sym c.filled-file.ensures.1) (words_of _ c.shared_slice_known-1.given) c.append.ensures c.of_words-begun.ensures, c.requires.1, c.requires.2)
 
 pub put_all_spec : {M : Type 1} → statement M
 put_all_spec =

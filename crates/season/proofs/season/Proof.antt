@@ -14,28 +14,28 @@ use Rattle.season.proofs.season.Tie as tie
 wrong-entries : tie.Need-returns-then-not-entries_fit
 wrong-entries c =
     let a = c.args in
-    let g = gives_wrong_entries (season_with c.args.table.now c.args.entries.now c.args.list.now c.args.proof.now c.args.answer.now c.args.work.now) c.enter-entry.ensures c.in-Open.is c.entries_fit.ensures (ap not c.if-not-entries_fit.true) c.refused-then-not-entries_fit.ensures a.proof.now a.answer.now in
+    let g = gives_wrong_entries (season_with c.args.table.now c.args.entries.now c.args.list.now c.args.proof.now c.args.answer.now c.args.work.now) c.enter.ensures c.in-Ok.is c.entries_fit.ensures (ap not c.if-not-entries_fit.true) c.refused-then-not-entries_fit.ensures a.proof.now a.answer.now in
     (g.numbers, (g.steps, (g.words, c.leave-then-not-entries_fit.ensures)))
 
 requires : tie.Need-put_all-report-requires
 requires c κs =
-    let in-it = let_in (season_with c.args.table.now c.args.entries.now c.args.list.now c.args.proof.now c.args.answer.now c.args.work.now) c.enter-entry.ensures c.in-Open.is in
-    (in-it.good_file, record { enough = in-it.enough_proof; room = length-take-le 16384 c.args.work.now in-it.enough_work }, entries_right (season_with c.args.table.now c.args.entries.now c.args.list.now c.args.proof.now c.args.answer.now c.args.work.now) c.enter-entry.ensures c.in-Open.is c.entries_fit.ensures (ap not c.if-not-entries_fit.false))
+    let in-it = let_in (season_with c.args.table.now c.args.entries.now c.args.list.now c.args.proof.now c.args.answer.now c.args.work.now) c.enter.ensures c.in-Ok.is in
+    (in-it.good_file, record { enough = in-it.enough_proof; room = length-take-le 16384 c.args.work.now in-it.enough_work }, entries_right (season_with c.args.table.now c.args.entries.now c.args.list.now c.args.proof.now c.args.answer.now c.args.work.now) c.enter.ensures c.in-Ok.is c.entries_fit.ensures (ap not c.if-not-entries_fit.false))
 
-refused-at-door : tie.Need-returns-in-Refused
+refused-at-door : tie.Need-returns-in-Err
 refused-at-door c =
     let a = c.args in
-    let g = gives_refusal (season_with c.args.table.now c.args.entries.now c.args.list.now c.args.proof.now c.args.answer.now c.args.work.now) c.enter-entry.ensures c.in-Refused.is c.refused.ensures a.proof.now a.answer.now in
+    let g = gives_refusal (season_with c.args.table.now c.args.entries.now c.args.list.now c.args.proof.now c.args.answer.now c.args.work.now) c.enter.ensures c.in-Err.is c.refused.ensures a.proof.now a.answer.now in
     (g.numbers, (g.steps, (g.words, c.leave.ensures)))
 
 reported : tie.Need-returns-else-not-entries_fit
 reported c =
     let inside = c.put_all-report in
-    let in-it = let_in (season_with c.args.table.now c.args.entries.now c.args.list.now c.args.proof.now c.args.answer.now c.args.work.now) c.enter-entry.ensures c.in-Open.is in
-    let g = gives_report (season_with c.args.table.now c.args.entries.now c.args.list.now c.args.proof.now c.args.answer.now c.args.work.now) c.enter-entry.ensures c.in-Open.is c.entries_fit.ensures (ap not c.if-not-entries_fit.false) refl inside.ensures in
+    let in-it = let_in (season_with c.args.table.now c.args.entries.now c.args.list.now c.args.proof.now c.args.answer.now c.args.work.now) c.enter.ensures c.in-Ok.is in
+    let g = gives_report (season_with c.args.table.now c.args.entries.now c.args.list.now c.args.proof.now c.args.answer.now c.args.work.now) c.enter.ensures c.in-Ok.is c.entries_fit.ensures (ap not c.if-not-entries_fit.false) refl inside.ensures in
     let part : List ℕ = inside.new.work in
     let rest = work_left _ part in-it.enough_work inside.auto.work in
-    (g.numbers, (g.steps, (g.words, c.leave-in-Open.ensures ∙ rest)))
+    (g.numbers, (g.steps, (g.words, c.leave-in-Ok.ensures ∙ rest)))
 
 pub season_spec : {M : Type 1} → statement M
 season_spec =
@@ -51,8 +51,8 @@ season_spec =
     (λ c κs. search rules)
     (λ c. search rules)
     wrong-entries
-    (λ c. (let_in (season_with c.args.table.now c.args.entries.now c.args.list.now c.args.proof.now c.args.answer.now c.args.work.now) c.enter-entry.ensures c.in-Open.is).enough_work)
-    (λ c. sym (length-take-le 16384 c.args.work.now (let_in (season_with c.args.table.now c.args.entries.now c.args.list.now c.args.proof.now c.args.answer.now c.args.work.now) c.enter-entry.ensures c.in-Open.is).enough_work))
+    (λ c. (let_in (season_with c.args.table.now c.args.entries.now c.args.list.now c.args.proof.now c.args.answer.now c.args.work.now) c.enter.ensures c.in-Ok.is).enough_work)
+    (λ c. sym (length-take-le 16384 c.args.work.now (let_in (season_with c.args.table.now c.args.entries.now c.args.list.now c.args.proof.now c.args.answer.now c.args.work.now) c.enter.ensures c.in-Ok.is).enough_work))
     requires
     (λ c κs. search rules)
     (λ c. search rules)

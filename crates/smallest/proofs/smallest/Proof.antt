@@ -12,19 +12,19 @@ use Rattle.smallest.proofs.AtTheDoor.{call_refused, call_inside, tells_refusal, 
 use Rattle.smallest.proofs.smallest.Statement.{statement}
 use Rattle.smallest.proofs.smallest.Tie as tie
 
-asked : tie.After-enter-entry → SearchAsked
+asked : tie.After-enter → SearchAsked
 asked c = let a = c.args in search_with a.file.now a.limit a.budget a.proof.now a.answer.now a.work.now
 
-accepted : (c : tie.In-Open) → SearchAccepted (asked c.before)
+accepted : (c : tie.In-Ok) → SearchAccepted (asked c.before)
 unfolding asked
-accepted c = opened _ _ c.enter-entry.ensures c.in-Open.is
+accepted c = opened _ _ c.enter.ensures c.in-Ok.is
 
-refused-at-door : tie.Need-returns-in-Refused
+refused-at-door : tie.Need-returns-in-Err
 unfolding asked
 refused-at-door c =
     let entered = c.before.before.before.before.before.before in
     let door = c in
-    let e = call_refused (asked entered) door.enter-entry.ensures door.in-Refused.is in
+    let e = call_refused (asked entered) door.enter.ensures door.in-Err.is in
     let t = tells_refusal e _ _ c.refused.ensures in
     (t.bound, (t.numbers, (t.steps, (t.words, c.leave.ensures))))
 
@@ -32,10 +32,10 @@ requires : tie.Need-tried-least-requires
 unfolding asked
 requires c κs =
     let door = c in
-    let question = at_question _ (search_inputs (asked c.before.before.before.before)) door.enter-entry.ensures door.in-Open.is in
+    let question = at_question _ (search_inputs (asked c.before.before.before.before)) door.enter.ensures door.in-Ok.is in
     (all_passed door.args.work.now (accepted c.before.before.before) question refl, (accepted c.before.before.before).enough_proof)
 
-admitted : tie.Need-returns-in-Open
+admitted : tie.Need-returns-in-Ok
 unfolding asked
 admitted c =
     let door = c.before.before.before.before.before.before.before.before.before.before.before.before.before.before in
@@ -44,7 +44,7 @@ admitted c =
     let part : List ℕ = inside.new.work in
     let rest = work_left _ part (accepted door).enough_work inside.auto.work in
     let t = tells_same e inside.ensures in
-    (t.bound, (t.numbers, (t.steps, (t.words, c.leave-in-Open.ensures ∙ rest))))
+    (t.bound, (t.numbers, (t.steps, (t.words, c.leave-in-Ok.ensures ∙ rest))))
 
 pub smallest_spec : {M : Type 1} → statement M
 unfolding asked

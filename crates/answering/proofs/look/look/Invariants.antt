@@ -1,10 +1,6 @@
-use Prim.Native.Nat.{◌-◌}
 use Rattle.answering.proofs.Looking.{Looking}
 use Rattle.answering.proofs.look.look.Given as goal
 
 abbrev pub invariant-loop-bound : goal.invariant-loop-bound
 invariant-loop-bound g l =
     Looking l.file l.limit l.budget l.initial.proof l.initial.answer l.initial.work l.proof l.answer l.work l.bound l.used
-
-abbrev pub decreases-loop-bound : goal.decreases-loop-bound
-decreases-loop-bound g l = l.limit - l.bound

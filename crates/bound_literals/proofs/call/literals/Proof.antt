@@ -18,15 +18,15 @@ requires : tie.Need-written-n-requires
 requires c κs =
     let door = c in
     let a = door.args in
-    all_passed a.work.now (opened c.args.file.now (asked c.args.bound (length c.args.work.now)) c.enter-entry.ensures c.in-Open.is) (at_question a.file.now (asked a.bound (length a.work.now)) door.enter-entry.ensures door.in-Open.is) refl
+    all_passed a.work.now (opened c.args.file.now (asked c.args.bound (length c.args.work.now)) c.enter.ensures c.in-Ok.is) (at_question a.file.now (asked a.bound (length a.work.now)) door.enter.ensures door.in-Ok.is) refl
 
-admitted : tie.Need-returns-in-Open
+admitted : tie.Need-returns-in-Ok
 admitted c =
     let door = c in
     let inside = c.written-n in
     let part : List ℕ = inside.new.work in (
-      call_admitted c.args.file.now c.args.bound c.args.steps.now (length c.args.work.now) door.enter-entry.ensures door.in-Open.is inside.ensures,
-      c.leave-in-Open.ensures ∙ work_left c.args.work.now part (opened c.args.file.now (asked c.args.bound (length c.args.work.now)) c.enter-entry.ensures c.in-Open.is).enough_work inside.auto.work,
+      call_admitted c.args.file.now c.args.bound c.args.steps.now (length c.args.work.now) door.enter.ensures door.in-Ok.is inside.ensures,
+      c.leave-in-Ok.ensures ∙ work_left c.args.work.now part (opened c.args.file.now (asked c.args.bound (length c.args.work.now)) c.enter.ensures c.in-Ok.is).enough_work inside.auto.work,
     )
 
 pub literals_spec : {M : Type 1} → statement M
@@ -37,8 +37,8 @@ literals_spec =
     (λ c. search rules)
     (λ c κs. search rules)
     (λ c. search rules)
-    (λ c. (opened c.args.file.now (asked c.args.bound (length c.args.work.now)) c.enter-entry.ensures c.in-Open.is).enough_work)
-    (λ c. sym (length-take-le 16384 c.args.work.now (opened c.args.file.now (asked c.args.bound (length c.args.work.now)) c.enter-entry.ensures c.in-Open.is).enough_work))
+    (λ c. (opened c.args.file.now (asked c.args.bound (length c.args.work.now)) c.enter.ensures c.in-Ok.is).enough_work)
+    (λ c. sym (length-take-le 16384 c.args.work.now (opened c.args.file.now (asked c.args.bound (length c.args.work.now)) c.enter.ensures c.in-Ok.is).enough_work))
     requires
     (λ c κs. search rules)
     (λ c. search rules)

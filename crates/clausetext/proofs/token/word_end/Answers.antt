@@ -1,15 +1,9 @@
-use mathlib.Core.Path.{ap}
-use mathlib.Core.Bool.{not}
-use Rattle.clausetext.proofs.Lexing.{word_over, word_stops, word_on}
+use Rattle.std.proofs.Common.{arith, length, take, drop, length-drop, length-take, ◌-◌}
+use Rattle.clausetext.proofs.Lexing.{word_within}
 use Rattle.clausetext.proofs.token.word_end.Goals as goal
 
-pub returns-then-not-goes_on : goal.returns-then-not-goes_on
-returns-then-not-goes_on c =
-    word_stops c.args.text.now c.args.from c.loop-at.invariant c.loop-at-test.true c.kind_of.ensures c.goes_on.ensures (ap not c.if-not-goes_on.true)
-
-pub loop-at-preserved : goal.loop-at-preserved
-loop-at-preserved c =
-    word_on c.args.text.now c.args.from c.loop-at.invariant c.loop-at-test.true c.kind_of.ensures c.goes_on.ensures (ap not c.if-not-goes_on.false)
-
-pub returns : goal.returns
-returns c = word_over c.args.text.now c.args.from c.loop-at.invariant c.loop-at-test.false
+pub overflow_add-result : goal.overflow_add-result
+overflow_add-result c =
+    let text = c.args.text.now in
+    let rest = drop c.args.from text in
+    omega (arith, c.word_length.ensures, word_within (take (length text - c.args.from) rest), length-take (length text - c.args.from) rest, length-drop c.args.from text)

@@ -9,9 +9,9 @@ write_spec =
     tie.close
     (tie.spec
     (λ c κs. search rules)
-    (λ c κs. room_for_question c.requires c.put_records-question.ensures)
+    (λ c κs. room_for_question c.args.slot c.requires c.put_records-question.ensures)
     (λ c. search rules)
-    (λ c κs. room_for_trailer c.requires c.put_records-question.ensures c.put_question-body.ensures)
-    (λ c. omega (arith, body_short c.requires c.put_records-question.ensures c.put_question-body.ensures))
+    (λ c κs. room_for_trailer c.args.slot c.requires c.put_records-question.ensures c.put_question-body.ensures)
+    (λ c. omega (arith, body_short c.args.slot c.requires c.put_records-question.ensures c.put_question-body.ensures))
     (λ c. search rules)
-    (λ c. file_written c.requires c.put_records-question.ensures c.put_question-body.ensures c.seal.ensures))
+    (λ c. file_written c.args.slot c.requires c.put_records-question.ensures c.put_question-body.ensures c.seal.ensures))

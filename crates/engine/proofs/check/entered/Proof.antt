@@ -1,4 +1,3 @@
-use borrow.Author.Rules.{rules}
 use Rattle.engine.proofs.Checker.Walks.{walk_noted}
 use Rattle.engine.proofs.check.entered.Statement.{statement}
 use Rattle.engine.proofs.check.entered.Tie as tie

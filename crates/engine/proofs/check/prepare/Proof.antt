@@ -1,6 +1,5 @@
 use Rattle.engine.proofs.Checker.Run.{body_literals, noted_body}
 use borrow.Author.Rules.{rules}
-use borrow.Author.Tests.{not-true}
 use Rattle.rules.proofs.Unify.Tests.{never}
 use Rattle.engine.proofs.check.prepare.Statement.{statement}
 use Rattle.engine.proofs.check.prepare.Tie as tie

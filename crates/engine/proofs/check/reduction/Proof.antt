@@ -19,7 +19,7 @@ returns-2 : tie.Need-returns-in_default
 returns-2 c = search all
 
 word-at-requires : tie.Need-word_at-found-requires
-word-at-requires c κs = reduce_reads c.requires c.args.word c.args.height c.if-head-eq0.false c.ancestor-above.ensures c.in-At.is
+word-at-requires c κs = reduce_reads c.requires c.args.word c.args.height c.if-head-eq0.false c.ancestor-above.ensures c.in-Some.is
 
 returns-3 : tie.Need-returns-then-found-wanted
 returns-3 c =
@@ -31,13 +31,13 @@ reduce-requires : tie.Need-reduce-requires
 reduce-requires c κs =
     let start = c in
     let small : Small start.args.file.now = λ i. (start.shared_slice_known-1.given i).fits in
-    reduce_allowed start.requires start.args.word start.args.height c.if-head-eq0.false c.ancestor-above.ensures c.in-At.is small c.word_at-found.ensures c.wanted.ensures c.if-found-wanted.false
+    reduce_allowed start.requires start.args.word start.args.height c.if-head-eq0.false c.ancestor-above.ensures c.in-Some.is small c.word_at-found.ensures c.wanted.ensures c.if-found-wanted.false
 
 returns-4 : tie.Need-returns
 returns-4 c =
     let start = c in
     let small : Small start.args.file.now = λ i. (start.shared_slice_known-1.given i).fits in
-    reduce_judged start.requires start.args.word start.args.height c.if-head-eq0.false c.ancestor-above.ensures c.in-At.is small c.word_at-found.ensures c.wanted.ensures c.if-found-wanted.false c.reduce.ensures c.by_meeting.ensures
+    reduce_judged start.requires start.args.word start.args.height c.if-head-eq0.false c.ancestor-above.ensures c.in-Some.is small c.word_at-found.ensures c.wanted.ensures c.if-found-wanted.false c.reduce.ensures c.by_meeting.ensures
 
 pub reduction_spec : {M : Type 1} → statement M
 reduction_spec =

@@ -1,5 +1,4 @@
 use borrow.Author.Rules.{rules}
-use borrow.Author.Tests.{not-true, not-false}
 use mathlib.Core.Path.{sym, ◌∙◌}
 use Rattle.engine.proofs.Checker.Steps.{restart_unlet_judged, restart_over_judged, restart_openable, restart_judged}
 use Rattle.engine.proofs.check.restart.Statement.{statement}

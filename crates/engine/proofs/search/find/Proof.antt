@@ -1,6 +1,5 @@
 -- The search of an accepted file: by scans, where the body is long and the search short; else by the notes of its literals.
 use borrow.Author.Rules.{rules}
-use borrow.Author.Tests.{not-false}
 use mathlib.Core.Path.{sym, ◌∙◌}
 use native.Mathlib.Omega.{arith}
 use Prim.Native.Nat.{◌-◌}

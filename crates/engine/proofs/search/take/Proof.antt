@@ -3,7 +3,7 @@ use borrow.Author.Rules.{rules}
 use mathlib.Core.Path.{sym, subst}
 use Rattle.engine.specs.Searching.{Allows, Takes}
 use Rattle.engine.specs.declared.search.Move.{Move}
-use Rattle.unification.specs.declared.unify.Meeting.TheVariants.{Made}
+use Rattle.std.specs.Prelude.{Ok}
 use Rattle.engine.proofs.Searching.Takes.{reduces, takes_reduction, enter_later, enter_begun, extends, takes_extension, restarts, takes_restart}
 use Rattle.engine.proofs.search.take.Statement.{statement}
 use Rattle.engine.proofs.search.take.Tie as tie
@@ -51,7 +51,7 @@ returns-3 : tie.Need-returns-in-Renew
 returns-3 c =
     let s = c in
     let e = c.in-Renew.is in
-    subst (λ (k : Move). Takes s.args.file.now s.args.work.now c.restart.new.work s.args.task s.args.place k (record { meeting = Made; place = c.restart.result })) (sym e)
+    subst (λ (k : Move). Takes s.args.file.now s.args.work.now c.restart.new.work s.args.task s.args.place k (Ok c.restart.result)) (sym e)
     (takes_restart s.requires.0 s.requires.1 (subst (Allows s.args.file.now s.args.work.now s.args.task s.args.place) e s.requires.2) c.encode-step-in-Renew.ensures c.restart.ensures)
 
 pub take_spec : {M : Type 1} → statement M

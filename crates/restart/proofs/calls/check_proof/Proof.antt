@@ -8,18 +8,18 @@ use Rattle.restart.proofs.Telling.{missing_place, none_missing, missing_fits, ch
 use Rattle.restart.proofs.calls.check_proof.Statement.{statement}
 use Rattle.restart.proofs.calls.check_proof.Tie as tie
 
-refused-there : tie.Need-returns-in-Missing
+refused-there : tie.Need-returns-in-Some
 refused-there c =
     let asks = check_with c.args.file.now c.args.bound c.args.offered.now c.args.answer.now c.args.work.now in
-    let e = check_missing table_in asks (missing_place asks.file (check_inputs asks) c.missing-conclusions.ensures c.in-Missing.is) in
+    let e = check_missing table_in asks (missing_place asks.file (check_inputs asks) c.missing.ensures c.in-Some.is) in
     let t = refuses e [] _ c.refused.ensures in
     (t.numbers, (t.words, c.leave.ensures))
 
-concluded : tie.Need-returns-in-Each
+concluded : tie.Need-returns-in-None
 concluded c =
     let a = c.args in
     let asks = check_with c.args.file.now c.args.bound c.args.offered.now c.args.answer.now c.args.work.now in
-    let e = sym (check_concluded asks (none_missing asks.file (check_inputs asks) c.missing-conclusions.ensures c.in-Each.is)) in
+    let e = sym (check_concluded asks (none_missing asks.file (check_inputs asks) c.missing.ensures c.in-None.is)) in
     let x = c.check_by.ensures in
     (x.0 ∙ ap (λ (g : Given). g.outcome) e, (x.1.0 ∙ ap (λ (g : Given). at_front g.answer a.answer.now) e, x.1.1))
 
@@ -30,7 +30,7 @@ check_proof_spec =
     (λ c κs. search rules)
     (λ c. search rules)
     (λ c κs. search rules)
-    (λ c. let asks = check_with c.args.file.now c.args.bound c.args.offered.now c.args.answer.now c.args.work.now in missing_fits asks.file (check_inputs asks) c.missing-conclusions.ensures c.in-Missing.is)
+    (λ c. let asks = check_with c.args.file.now c.args.bound c.args.offered.now c.args.answer.now c.args.work.now in missing_fits asks.file (check_inputs asks) c.missing.ensures c.in-Some.is)
     (λ c κs. search rules)
     (λ c. search rules)
     (λ c κs. search rules)

@@ -7,8 +7,8 @@ use Rattle.restart.proofs.calls.missing.Tie as tie
 
 judge-requires : tie.Need-judge-requires
 judge-requires c κs =
-    let door = c.enter-entry.ensures in
-    let entry = c.in-Open.is in
+    let door = c.enter.ensures in
+    let entry = c.in-Ok.is in
     let a = c.args in
     ((opened a.file.now a.inputs door entry).good_file, c.wide.ensures ∙ at_question a.file.now a.inputs door entry)
 
@@ -21,5 +21,5 @@ missing_spec =
     (λ c. search rules)
     (λ c κs. search rules)
     judge-requires
-    (λ c. shut_none c.args.file.now c.args.inputs c.enter-entry.ensures c.in-Refused.is)
-    (λ c. open_judged c.args.file.now c.args.inputs c.enter-entry.ensures c.in-Open.is c.judge.ensures))
+    (λ c. shut_none c.args.file.now c.args.inputs c.enter.ensures c.in-Err.is)
+    (λ c. open_judged c.args.file.now c.args.inputs c.enter.ensures c.in-Ok.is c.judge.ensures))

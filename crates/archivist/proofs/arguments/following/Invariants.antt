@@ -1,8 +1,0 @@
-use Prim.Native.Nat.{◌-◌, ◌≤◌}
-use Rattle.archivist.proofs.arguments.following.Given as goal
-
-abbrev pub invariant-loop-i : goal.invariant-loop-i
-invariant-loop-i l = 2 ≤ l.i
-
-abbrev pub decreases-loop-i : goal.decreases-loop-i
-decreases-loop-i l = l.count - l.i

@@ -1,0 +1,6 @@
+use borrow.Author.Rules.{rules}
+use Rattle.text.proofs.Putting.{then}
+use Rattle.drawing.proofs.graph.extension.Goals as goal
+
+pub returns : goal.returns
+returns c = then c.copy-a.ensures c.under.ensures

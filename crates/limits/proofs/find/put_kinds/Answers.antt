@@ -1,0 +1,14 @@
+use borrow.Author.Rules.{rules}
+use Rattle.limits.proofs.Counting.{fill_laws}
+use Rattle.limits.proofs.find.put_kinds.Goals as goal
+
+ruleset all = (rules, fill_laws)
+
+pub loop-i-init : goal.loop-i-init
+loop-i-init c = search all
+
+pub loop-i-preserved : goal.loop-i-preserved
+loop-i-preserved c = search all
+
+pub returns : goal.returns
+returns c = search all

@@ -1,0 +1,8 @@
+use Rattle.std.proofs.Common.{rules}
+use Rattle.reports.proofs.Counting.{count_laws}
+use Rattle.reports.proofs.counts.szs.Goals as goal
+
+ruleset all = (rules, count_laws)
+
+pub returns : goal.returns
+returns c = search all

@@ -1,8 +1,0 @@
-use borrow.Author.Rules.{rules}
-use Rattle.tableaux.proofs.tableau.right_of.Statement.{statement}
-use Rattle.tableaux.proofs.tableau.right_of.Tie as tie
-
-pub right_of_spec : {M : Type 1} → statement M
-right_of_spec =
-    tie.close
-    (tie.spec (λ c. search rules) (λ c κs. search rules) (λ c. search rules) (λ c. search rules) (λ c. search rules) (λ c. rw c.wide.ensures))
