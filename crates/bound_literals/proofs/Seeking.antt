@@ -2,8 +2,6 @@
 use borrow.Author.Tests.{lt-ltb, le-ltb}
 use lib.ListN.{length, drop, get_or, get_elem?, drop_of_length-le}
 use mathlib.Core.List.{List, [], ◌∷◌, map}
-use mir.Syntax.{w32}
-use mir.Val.{Fits}
 use mathlib.Core.Option.{none, some}
 use Rattle.std.specs.Prelude.{Some, None}
 use mathlib.Core.Path.{◌≡◌, refl, sym, ◌∙◌, ap}
@@ -20,7 +18,7 @@ use Rattle.unification.specs.Good.{word_at, Inside, Good}
 use Rattle.answers.specs.Writing.{resolved}
 use Rattle.answers.proofs.CopyWords.{Reached, own_words_lem, own_drop, copy_count, copy_reached, offset_inside, offset_small, offset_word, offset_reached, offset_literal, offset_says}
 use Rattle.bound_literals.specs.Bound.{literal_of_copy, words_under}
-use Rattle.bound_literals.specs.Held.{Filled, clause_held, words_held, LiteralFor, OffsetFor}
+use Rattle.bound_literals.specs.Held.{Filled, clause_held, words_held, OffsetFor}
 use Rattle.bound_literals.proofs.Filling.{fill_none}
 
 -- how far a literal is sought: so many are still to be passed from an offset on
@@ -119,12 +117,6 @@ module _ (f m : List ℕ) (copy number : ℕ) where
     held_missing g out = none-held out (rw (lt-ltb copy (copies_of m) c, g))
 
   module _ (c : copy < copies_of m) {at : ℕ} (g : OffsetFor f m copy number (Some at)) where
-    pub held_copy : Fits w32 (copy * 256)
-    held_copy = record { fits = omega (arith, g.small) }
-
-    pub held_reference : Fits w32 (copy * 256 + at)
-    held_reference = record { fits = omega (arith, g.small) }
-
     pub held_there : {out left : List ℕ} {next : ℕ} → Filled out 0 (words_under (resolved f m) (some (literal_at_reference f m (copy * 256 + at)))) left next
         → Filled out 0 (words_held f m copy number) left next
     unfolding words_held clause_held literal_of_copy

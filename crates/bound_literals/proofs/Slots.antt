@@ -31,9 +31,6 @@ put_zeros (suc n) k [] h = zeros (suc n) k h
 put_zeros (suc n) k (w ∷ ws) h = ap (w ∷◌) (put_zeros n k ws (omega arith))
 
 module _ {ws left : List ℕ} {next : ℕ} (p : Filled (replicate {A = ℕ} 65 0) 0 ws left next) where
-  pub slot_few : next ≤ 65
-  slot_few = omega (arith, p.ends)
-
   pub slot_is : {n : ℕ} → n ≡ next → {o₀ o₁ o₂ : List ℕ} {n₀ n₁ n₂ : ℕ} → Put o₀ n₀ left o₁ n₁ → Put o₁ n₁ (n ∷ []) o₂ n₂ → Put o₀ n₀ (slot ws) o₂ n₂
   unfolding slot
   slot_is {n} e q r =
@@ -45,9 +42,6 @@ module _ {ws left : List ℕ} {next : ℕ} (p : Filled (replicate {A = ℕ} 65 0
 pub record Slotting (words : ℕ → ℕ → List ℕ) (first out : List ℕ) (at i : ℕ) : Type 0 where
   pub few : i ≤ 231
   pub left : Left first 0 (slots_from words 0 231) out at (slots_from words i (231 - i))
-
-pub slots_begin : (words : ℕ → ℕ → List ℕ) (first : List ℕ) → Slotting words first first 0 0
-slots_begin words first = record { few = omega arith; left = begin first 0 (slots_from words 0 231) }
 
 module _ {words : ℕ → ℕ → List ℕ} {first out : List ℕ} {at i : ℕ} (g : Slotting words first out at i) where
   pub slots_over : 231 ≤ i → Put first 0 (slots_from words 0 231) out at

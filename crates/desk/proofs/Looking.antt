@@ -25,38 +25,12 @@ pub is_not_of : (day house : ℕ) (r : Record) → is_of day house r ≡ false �
 unfolding is_of
 is_not_of day house r e p q = never (sym e ∙ rw (eq-eqb r.day day p, eq-eqb r.house house q))
 
--- a number in its range
-pub under_range : (low n high : ℕ) → n < low → false ≡ between low high n
-under_range low n high h = rw (lt-leb low n h)
-
-pub over_low : (low n high : ℕ) → low ≤ n → leb n high ≡ between low high n
-over_low low n high h = rw (le-leb low n h)
-
-pub ruleset between_laws = (under_range, over_low)
-
 -- a test that is turned about: `if !f(..)`
 so_false : {q b : Bool} → q ≡ b → not q ≡ true → b ≡ false
 so_false {q} e n = sym e ∙ not-true q n
 
 so_true : {q b : Bool} → q ≡ b → not q ≡ false → b ≡ true
 so_true {q} e n = sym e ∙ not-false q n
-
--- a record, its numbers looked at one after another
-module _ (day house slot : ℕ) where
-  pub wrong_day : {q : Bool} → q ≡ between 1 366 day → not q ≡ true → false ≡ record_in_range day house slot
-  unfolding record_in_range
-  wrong_day e f = rw (so_false e f)
-
-  module _ {q : Bool} (e : q ≡ between 1 366 day) (f : not q ≡ false) where
-    pub wrong_house : {r : Bool} → r ≡ between 1 999 house → not r ≡ true → false ≡ record_in_range day house slot
-    unfolding record_in_range
-    wrong_house g h = rw (so_true e f, so_false g h)
-
-    pub by_slot : {r s : Bool} → r ≡ between 1 999 house → not r ≡ false → s ≡ between 1 3 slot → s ≡ record_in_range day house slot
-    unfolding record_in_range
-    by_slot g h k = rw (so_true e f, so_true g h) k
-
-pub ruleset record_laws = (wrong_day, wrong_house, by_slot)
 
 -- a record in range
 pub in_range_asked : (day house slot : ℕ) → record_in_range day house slot ≡ true → Asked day house
@@ -173,25 +147,3 @@ module _ (ws : List ℕ) (day house : ℕ) (a : acceptable ws day house ≡ true
 
 pub may_ask : (ws : List ℕ) (day house : ℕ) → acceptable ws day house ≡ true → Intake ws × Asked day house
 may_ask ws day house a = (accepted_words ws day house a, accepted_question ws day house a)
-
--- the first look, one thing after another
-module _ (ws : List ℕ) (day house : ℕ) where
-  pub no_such_day : {q : Bool} → q ≡ between 1 366 day → not q ≡ true → false ≡ acceptable ws day house
-  unfolding acceptable
-  no_such_day e f = rw (so_false e f)
-
-  module _ {q : Bool} (e : q ≡ between 1 366 day) (f : not q ≡ false) where
-    pub no_such_house : {r : Bool} → r ≡ between 1 999 house → not r ≡ true → false ≡ acceptable ws day house
-    unfolding acceptable
-    no_such_house g h = rw (so_true e f, so_false g h)
-
-    module _ {r : Bool} (g : r ≡ between 1 999 house) (h : not r ≡ false) where
-      pub too_many : 1500 < length ws → false ≡ acceptable ws day house
-      unfolding acceptable
-      too_many l = rw (so_true e f, so_true g h, lt-leb (length ws) 1500 l)
-
-      pub by_words : {s : Bool} → length ws ≤ 1500 → s ≡ words_in_range ws → s ≡ acceptable ws day house
-      unfolding acceptable
-      by_words l k = rw (so_true e f, so_true g h, le-leb (length ws) 1500 l) k
-
-pub ruleset acceptable_laws = (no_such_day, no_such_house, too_many, by_words)

@@ -146,8 +146,6 @@ module _ {S : Source} {number made clause size : ℕ} {first : List ℕ} {from :
       turned : (k : ℕ) → size - literal ≡ suc k → Left first from (literal_lines S number made clause 0 size) out at (literal_line S number made clause literal ++ literal_lines S number made clause (literal + 1) k)
       turned k z = rw add-one (rw z at g.left)
 
-pub ruleset box_laws = (box_begin, box_over, box_on)
-
 -- the lines to a copy
 pub record Lining (number literal below entered size : ℕ) (first : List ℕ) (from : ℕ) (out : List ℕ) (at other : ℕ) : Type 0 where
   pub low : other ≤ size
@@ -232,8 +230,6 @@ few_steps h k = record { fits = omega arith }
 
 pub low_step : {i n : ℕ} → i < n → n ≤ 199 → i < 4294967295
 low_step h k = omega arith
-
-pub ruleset drawing_laws = (drawing_begin, drawing_over, drawing_on, few_steps, low_step)
 
 pub draw_is : (S : Source) (steps : List ℕ) {first sizes : List ℕ} {r : ℕ} → length first ≡ 512 → Put first 0 (sizes_in S.file) sizes r → {question : ℕ} → question ≡ question_in S.file → {own : List ℕ} → own ≡ take 199 steps
     → {o₀ o₁ : List ℕ} {n₀ n₁ : ℕ} → Put o₀ n₀ (tableau_text S sizes question own) o₁ n₁ → Put o₀ n₀ (draw_text S steps) o₁ n₁

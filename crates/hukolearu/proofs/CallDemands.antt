@@ -21,20 +21,20 @@ use Rattle.rules.specs.Order.{Ending, found, nothing, Searched, First}
 use Rattle.rules.specs.Truth.{Interpretation, AllNegative, AllHold, TrueAnswer}
 use Rattle.rules.specs.Growing.{Larger, moved}
 use Rattle.rules.specs.Comparison.{a_clash, a_circle}
-use Rattle.rules.specs.Verdict.{Refusal, malformed, not_allowed, not_unified, leaves_open, status_of, CheckVerdict, accepted, refused, Checks, SearchVerdict, finds, finds_none, runs_out, Answers}
-use Rattle.rules.specs.Machinery.Play.{Play, Checking, passed, check, checked, search_for, answer_of, disjuncts_of}
+use Rattle.rules.specs.Verdict.{Refusal, malformed, not_allowed, not_unified, leaves_open, status_of, accepted, refused, Checks, runs_out, Answers}
+use Rattle.rules.specs.Machinery.Play.{search_for, answer_of, disjuncts_of}
 use Rattle.rules.proofs.Checker.{accepted_closed, closed_accepted}
 use Rattle.rules.proofs.ClosedTableaux.{larger_bound, larger_table, step_numbers}
-use Rattle.rules.proofs.Demands.{passed_closed, closed_passed, accepted_has_answer, one_answer, one_ending, runs_out_exactly, tries_are_those_made, none_exactly, found_is_first, one_check_verdict, answers_hold, larger_budget, short_clauses, not_enough}
+use Rattle.rules.proofs.Demands.{closed_passed, accepted_has_answer, one_answer, one_ending, tries_are_those_made, none_exactly, found_is_first, one_check_verdict, answers_hold, larger_budget, short_clauses, not_enough}
 use Rattle.rules.proofs.Lengths.{InRange}
 use Rattle.rules.proofs.Lists.{All}
 use Rattle.rules.specs.Answer.{disjuncts, answer_words}
 use Rattle.rules.proofs.Locality.{same_disjuncts, same_words_lem}
-use Rattle.rules.specs.Substitution.{Substitution, MostGeneral}
+use Rattle.rules.specs.Substitution.{MostGeneral}
 use Rattle.hukolearu.specs.Calls as Calls
 use Rattle.hukolearu.specs.Door.{Fault, first_fault, checks, behind}
 use Rattle.hukolearu.specs.Calls.{Given, granted, search_given, room_of, search_inputs, search_setting, search_call, check_setting, check_call}
-use Rattle.hukolearu.specs.Says.{SearchAccepted, CheckAccepted, SearchSays, ran_out, none_found, found_fitting, found_too_long, CheckSays, not_closed, closed_fitting, closed_too_long}
+use Rattle.hukolearu.specs.Says.{SearchSays, ran_out, none_found, found_fitting, found_too_long, CheckSays, not_closed, closed_fitting, closed_too_long}
 use Rattle.hukolearu.specs.CallDemands as Demands
 use Rattle.table.proofs.AcceptedTable.{accepted_within}
 use Rattle.hukolearu.proofs.Accepts.{asks_negative}

@@ -1,6 +1,6 @@
 -- What a call tells, outcome by outcome: each law goes from what a function below the public calls knows to what it promises.
 use mathlib.Core.Bool.{Bool, true, false, not}
-use mathlib.Core.List.{List, [], ◌∷◌, map}
+use mathlib.Core.List.{List, [], ◌∷◌}
 use mathlib.Core.Path.{◌≡◌, refl, sym, ◌∙◌, ap, ap₂, subst}
 use Prim.Native.Nat.{ℕ, zero, suc, ◌+◌, ◌-◌, ◌≤◌, ◌<◌}
 use native.Mathlib.Omega.{arith}
@@ -171,8 +171,6 @@ pub check_by_verdict : (f m : List ℕ) (question : ℕ) (conditions : Condition
 check_by_verdict f m question conditions offered (Ok steps) h room p = accepted_given f m question conditions offered h room p refl
 check_by_verdict f m question conditions offered (Err refusal) h room p = refused_given f m question conditions offered h room refl refl
 
-pub ruleset check_laws = (accepted_answerable, refuses, tells, refused_given, accepted_given)
-
 -- the same words stand in a part of two lists
 part_same : (n a : ℕ) (m m' : List ℕ) → a + n ≤ length m → length m' ≡ length m → ((i : ℕ) → a ≤ i → i < a + n → get_or m' i 0 ≡ get_or m i 0)
     → take n (drop a m') ≡ take n (drop a m)
@@ -249,8 +247,6 @@ pub held_by_room : (f m m' : List ℕ) (question steps : ℕ) (proof : List ℕ)
     → held f m question steps proof tries words ≡ by_room q tries (granted steps proof (length (disjuncts_kept f m')) (answer_held f m') tries)
 held_by_room f m m' question steps proof tries words (Some left) c counted = held-fitting (chosen_left c (Some left) words refl counted refl) steps proof tries refl
 held_by_room f m m' question steps proof tries words None c counted = held_over (chosen_over c None words refl counted refl) steps proof tries refl
-
-pub ruleset fit_laws = (chosen_over, chosen_left)
 
 pub ruleset answer_laws = (refuses, held_over, fit_told, fit_writable, wrote_told)
 

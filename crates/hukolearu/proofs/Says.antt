@@ -1,13 +1,10 @@
 -- The calls say what document 01 says (specs/Says.antt), and no other outcome is permitted.
-use mathlib.Core.Bool.{Bool, true, false, cond}
-use mathlib.Core.List.{List, [], ◌∷◌, map}
-use mathlib.Core.Logic.{◌↔◌, ◌⊎◌}
+use mathlib.Core.List.{List, [], map}
 use mathlib.Core.Path.{◌≡◌, refl, sym, ap, ◌∙◌, subst}
 use Prim.Native.Nat.{ℕ, ◌≤◌, ◌<◌}
 use native.Mathlib.Decide.{dec_lt}
 use native.Mathlib.Omega.{arith}
 use borrow.Author.Tests.{le-leb, lt-leb}
-use lib.Dec.{leb}
 use lib.ListN.{length}
 use Rattle.words.specs.Steps.{step_of, step_word}
 use Rattle.words.specs.declared.Step.{Step}
@@ -16,7 +13,7 @@ use Rattle.table.specs.File.{table_in}
 use Rattle.rules.specs.Setting.{read_steps, Setting}
 use Rattle.rules.specs.Tableau.{Tableau, start, Closed}
 use Rattle.rules.specs.Order.{Ending, found, nothing, Searched}
-use Rattle.rules.specs.Verdict.{Refusal, status_of, CheckVerdict, accepted, refused, Checks, SearchVerdict, finds, finds_none, runs_out, ended, Answers}
+use Rattle.rules.specs.Verdict.{Refusal, CheckVerdict, accepted, refused, Checks, Answers}
 use Rattle.rules.specs.Machinery.Play.{Play, Checking, passed, stopped, check, checked, search_for, answer_of, disjuncts_of}
 use Rattle.rules.proofs.Demands.{passed_closed, closed_passed, accepted_has_answer, one_answer, search_ends, one_ending, runs_out_exactly, tries_are_those_made, found_is_first, checker_follows_the_rules, one_check_verdict}
 use Rattle.hukolearu.specs.Calls as Calls

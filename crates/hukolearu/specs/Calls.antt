@@ -1,12 +1,12 @@
 -- The public calls (document 01, "What comes back"): for every file, proof, bound, budget and buffer size, the six numbers that come back
 -- and the words that then stand at the front of the proof and answer buffers.
-use Rattle.std.specs.Prelude.{cond, List, [], ◌∷◌, ◌++◌, map, ℕ, min, leb, length, drop}
+use Rattle.std.specs.Prelude.{cond, List, [], ◌++◌, map, ℕ, min, leb, length, drop}
 use Rattle.words.specs.Steps.{step_of, step_word}
 use Rattle.words.specs.declared.Step.{Step}
 use Rattle.table.specs.Syntax.{Table}
 use Rattle.table.specs.File.{table_in}
 use Rattle.rules.specs.Setting.{Profile, longest_proof, read_steps, Setting, over, base}
-use Rattle.rules.specs.Verdict.{Refusal, status_of, SearchVerdict, finds, finds_none, runs_out}
+use Rattle.rules.specs.Verdict.{status_of, SearchVerdict, finds, finds_none, runs_out}
 use Rattle.rules.specs.Machinery.Play.{Play, Checking, passed, stopped, check, search_for, answer_of, disjuncts_of}
 use Rattle.hukolearu.specs.Status as Status
 use Rattle.hukolearu.specs.Door.{Fault, first_fault, checks, behind}

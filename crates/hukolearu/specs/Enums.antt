@@ -1,5 +1,5 @@
 -- The engine's own enums as document 01's numbers and values: what a call gives, for each case of an enum that is an answer.
--- The words of a step are `words/Steps.stepWord`, the status of a step judged is `engine/Checking.statusFor`, the door's entry is `Door.entryBy`.
+-- The words of a step are `words/Steps.step_word`, the status of a refusal is `engine/Checking.status_for`, the door's entry is `Door.entry_by`.
 use Rattle.std.specs.Prelude.{Option, Some, None, Result, Ok, Err, ℕ, ◌-◌}
 use Rattle.engine.specs.Checking.{status_for}
 use Rattle.engine.specs.declared.check.Refused.{Refused}

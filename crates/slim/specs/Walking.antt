@@ -20,7 +20,7 @@ pub record Ready (file : List ℕ) (question : ℕ) : Type 0 where
   pub small : Words file
   pub asks : question ≡ (judge file).question
 
--- there is one proof of it at most
+-- There is one proof of it at most, so that a struct may keep the fact. It stands here because a ghost field cites specs/ alone.
 words_once : (file : List ℕ) → IsProp (Words file)
 unfolding Each
 words_once [] = Unit-prop

@@ -8,7 +8,7 @@ use Rattle.hukolearu.specs.Calls.{Given, refused, SearchAsked, search_inputs}
 use Rattle.hukolearu.specs.Says.{SearchAccepted}
 use Rattle.hukolearu.specs.Door.{entry_of}
 use Rattle.hukolearu.specs.declared.Outcome.{Outcome}
-use Rattle.std.specs.Prelude.{Result, Ok, Err}
+use Rattle.std.specs.Prelude.{Result, Err}
 use Rattle.hukolearu.specs.declared.door.Refusal.{Refusal}
 use Rattle.hukolearu.proofs.DoorLaws.{shut, inside}
 use Rattle.hukolearu.proofs.Says.{search_accepted}

@@ -16,9 +16,6 @@ use Rattle.hukolearu.proofs.Says.{search_given_lem}
 use Rattle.smallest.specs.Smallest.{summed, ended, ends_at, none_up_to, from_bound}
 use Rattle.smallest.specs.Trying.{Tells, search_inside, tried_inside}
 
-pub ended_out : (bound : ℕ) {status : ℕ} → status ≡ 11 → 0 ≡ ended bound status
-ended_out bound {status} e = rw (eq-eqb status 11 e)
-
 pub ended_else : (bound : ℕ) {status : ℕ} → (status ≡ 11 → ⊥) → bound ≡ ended bound status
 ended_else bound {status} n = rw (ne_eqb status 11 n)
 
@@ -76,9 +73,6 @@ begins {limit = limit} budget h l =
     }
 
 module _ {f m p₀ a₀ p a : List ℕ} {question limit budget bound used : ℕ} (x : Running f m p₀ a₀ p a question limit budget bound used) where
-  pub proof_enough : 199 ≤ length p
-  proof_enough = rw x.steps x.enough
-
   -- past every bound
   pub all_tried : limit < bound → {r : Outcome} → r ≡ (none_up_to used).given.outcome
       → Tells (tried_inside (table_in f) (length a₀) budget limit) (record { bound = 0; outcome = r }) p₀ p a₀ a

@@ -1,5 +1,5 @@
 use mathlib.Core.Path.{sym}
-use Rattle.desk.proofs.Answering.{file_room, part_long, answer_ended, answer_none, answer_found}
+use Rattle.desk.proofs.Answering.{part_long, answer_ended, answer_none, answer_found}
 use Rattle.desk.proofs.ask.ask.Goals as goal
 
 pub slice_bounds-status_of-end : goal.slice_bounds-status_of-end

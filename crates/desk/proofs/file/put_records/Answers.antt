@@ -1,6 +1,5 @@
-use mathlib.Core.Path.{sym, ◌∙◌}
 use native.Mathlib.Omega.{arith}
-use Rattle.desk.proofs.Writing.{file_long, write_room, three_more, write_next, write_done}
+use Rattle.desk.proofs.Writing.{write_room, three_more, write_next, write_done}
 use Rattle.desk.proofs.file.put_records.Goals as goal
 
 pub bounds-records-i-in-loop-i : goal.bounds-records-i-in-loop-i

@@ -1,4 +1,3 @@
-use borrow.Author.Rules.{rules}
 use Rattle.drawing.proofs.Graphs.{copies_is}
 use Rattle.drawing.proofs.graph.copies.Goals as goal
 

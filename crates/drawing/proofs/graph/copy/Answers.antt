@@ -1,4 +1,3 @@
-use borrow.Author.Rules.{rules}
 use Rattle.drawing.proofs.Graphs.{copy_is}
 use Rattle.drawing.proofs.graph.copy.Goals as goal
 

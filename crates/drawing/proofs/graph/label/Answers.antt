@@ -1,4 +1,3 @@
-use borrow.Author.Rules.{rules}
 use Rattle.drawing.proofs.Graphs.{label_is}
 use Rattle.drawing.proofs.graph.label.Goals as goal
 

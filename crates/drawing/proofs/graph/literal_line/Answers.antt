@@ -1,4 +1,3 @@
-use borrow.Author.Rules.{rules}
 use Rattle.drawing.proofs.Graphs.{literal_line_is}
 use Rattle.drawing.proofs.graph.literal_line.Goals as goal
 

@@ -1,4 +1,3 @@
-use borrow.Author.Rules.{rules}
 use Rattle.drawing.proofs.Graphs.{box_begin, box_on, box_over}
 use Rattle.drawing.proofs.graph.literal_lines.Goals as goal
 

@@ -1,5 +1,4 @@
-use borrow.Author.Rules.{rules}
-use Rattle.drawing.proofs.Graphs.{drawing_begin, drawing_on, drawing_over, few_steps, low_step}
+use Rattle.drawing.proofs.Graphs.{drawing_begin, drawing_on, drawing_over}
 use Rattle.drawing.proofs.graph.steps_drawn.Goals as goal
 
 pub loop-i-init : goal.loop-i-init

@@ -1,4 +1,3 @@
-use borrow.Author.Rules.{rules}
 use Rattle.drawing.proofs.Graphs.{tableau_is}
 use Rattle.drawing.proofs.graph.tableau.Goals as goal
 
