@@ -7,6 +7,7 @@
 It reads the sources as text, so it finds too much rather than too little; the page says of each place what became of it.
 """
 import collections
+import functools
 import pathlib
 import re
 import sys
@@ -47,34 +48,23 @@ class Item:
         return head, clauses, body
 
 
-def items():
+@functools.cache
+def everything():
+    """The functions, enums and structs of all sources, methods among them, each with its lines up to the closing brace."""
+    found = []
     for file in sorted(ROOT.glob('crates/*/src/**/*.rt')):
-        name = str(file.relative_to(ROOT))
         item = None
         for number, line in enumerate(file.read_text().splitlines(), 1):
             line = code(line)
-            found = ITEM.match(line.strip()) if len(line) - len(line.lstrip()) in (0, 4) and not line.startswith('        ') else None
-            if found and (item is None or not line.startswith('    ') or item.kind == 'impl'):
-                item = Item(name, number, found.group(1), found.group(2))
-                yield_item = item
-                ALL.append(yield_item)
+            head = ITEM.match(line.strip()) if len(line) - len(line.lstrip()) in (0, 4) else None
+            if head and (item is None or not line.startswith('    ')):
+                item = Item(str(file.relative_to(ROOT)), number, head.group(1), head.group(2))
+                found.append(item)
             if item:
                 item.lines.append(line)
-            if item and line == '}':
+            if line == '}':
                 item = None
-
-
-ALL = []
-items_done = False
-
-
-def everything():
-    global items_done
-    if not items_done:
-        for _ in items() or []:
-            pass
-        items_done = True
-    return ALL
+    return found
 
 
 def functions():
@@ -134,32 +124,32 @@ def normal(item):
     return re.sub(r'\s+', ' ', re.sub(r'\b[A-Za-z_][A-Za-z_0-9]*\b', name, text.replace('pub(crate) ', '').replace('pub ', '')))
 
 
-def twins():
-    """2: functions that differ only in names, types and numbers (bodies of three lines or more)"""
+def alike(form):
+    """The functions whose form another has too, with those that have it; what has no form is left out."""
     groups = collections.defaultdict(list)
     for i in functions():
-        if len(i.split()[2]) >= 5 and '/exported' not in i.file:
-            groups[normal(i)].append(i)
+        if '/exported' not in i.file and form(i):
+            groups[form(i)].append(i)
     for group in groups.values():
-        if len(group) > 1:
-            for i in group:
+        for i in group:
+            if len(group) > 1:
                 yield i.place('as ' + ', '.join(f'{o.file.split("/")[1]}::{o.name}' for o in group if o is not i))
+
+
+def twins():
+    """2: functions that differ only in names, types and numbers (bodies of three lines or more)"""
+    return alike(lambda i: normal(i) if len(i.split()[2]) >= 5 else None)
+
+
+def typed(item):
+    head, _, body = item.split()
+    text = re.sub(r'\b' + NUMBER + r'\b', 'T', '\n'.join(head + body).replace(f' {item.name}(', ' F(', 1))
+    return re.sub(r'b?"[^"]*"|b?\'[^\']*\'|\b\d[\d_]*\b', 'N', text).replace('pub(crate) ', '').replace('pub ', '')
 
 
 def typed_twins():
     """2: functions of any length that differ only in a number type or a number, but for their own names"""
-    groups = collections.defaultdict(list)
-    for i in functions():
-        if '/exported' in i.file:
-            continue
-        head, _, body = i.split()
-        text = re.sub(r'\b' + NUMBER + r'\b', 'T', '\n'.join(head + body).replace(f' {i.name}(', ' F(', 1))
-        text = re.sub(r'b?"[^"]*"|b?\'[^\']*\'|\b\d[\d_]*\b', 'N', text).replace('pub(crate) ', '').replace('pub ', '')
-        groups[text].append(i)
-    for group in groups.values():
-        if len(group) > 1:
-            for i in group:
-                yield i.place('as ' + ', '.join(f'{o.file.split("/")[1]}::{o.name}' for o in group if o is not i))
+    return alike(typed)
 
 
 def counted_loops():
@@ -211,39 +201,42 @@ def let_else_tests():
                 yield i.place(line.strip(), k)
 
 
+def in_three(said):
+    """What three or more functions of a crate say, with how many do."""
+    users = collections.defaultdict(set)
+    for i in functions():
+        for what in said(i):
+            users[(i.file.split('/')[1], what)].add(i.name)
+    for (crate, what), names in sorted(users.items()):
+        if len(names) >= 3:
+            yield f'{crate}: {what}: {len(names)} functions'
+
+
+def facts(item):
+    for line in item.split()[1]:
+        found = re.match(r'\s*requires(?: [a-z_]+)? \{ (.*) \}$', line)
+        for fact in re.split(r' × ', found.group(1)) if found else []:
+            while fact.startswith('(') and fact.endswith(')'):
+                fact = fact[1:-1]
+            yield fact
+
+
 def repeated_facts():
     """5: a fact of a requires that stands in three or more functions"""
-    facts = collections.defaultdict(set)
-    for i in functions():
-        for line in i.split()[1]:
-            found = re.match(r'\s*requires(?: [a-z_]+)? \{ (.*) \}$', line)
-            if found:
-                for fact in re.split(r' × ', found.group(1)):
-                    fact = fact.strip()
-                    while fact.startswith('(') and fact.endswith(')'):
-                        fact = fact[1:-1]
-                    facts[(i.file.split('/')[1], fact)].add(f'{i.name}')
-    for (crate, fact), names in sorted(facts.items()):
-        if len(names) >= 3:
-            yield f'{crate}: {fact}: {len(names)} functions'
+    return in_three(facts)
+
+
+def pairs(item):
+    inside = re.search(r'\((.*)\)', ' '.join(l.strip() for l in item.split()[0]))
+    if not inside or '/exported' in item.file:
+        return []
+    given = [re.sub(r'&(?:mut )?', '&', p.strip()) for p in inside.group(1).split(',') if ':' in p]
+    return [f'{a}, {b}' for a, b in zip(given, given[1:])]
 
 
 def travelling():
     """5: pairs of parameters that stand side by side in three or more functions of a crate"""
-    pairs = collections.defaultdict(set)
-    for i in functions():
-        if '/exported' in i.file:
-            continue
-        head = ' '.join(l.strip() for l in i.split()[0])
-        inside = re.search(r'\((.*)\)', head)
-        if not inside:
-            continue
-        given = [re.sub(r'&(?:mut )?', '&', p.strip()) for p in inside.group(1).split(',') if ':' in p]
-        for a, b in zip(given, given[1:]):
-            pairs[(i.file.split('/')[1], a, b)].add(i.name)
-    for (crate, a, b), names in sorted(pairs.items()):
-        if len(names) >= 3:
-            yield f'{crate}: {a}, {b}: {len(names)} functions'
+    return in_three(pairs)
 
 
 def fixed_buffers():
