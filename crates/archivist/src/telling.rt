@@ -25,6 +25,8 @@ pub fn write(rt: &HostRuntime, to: Stream, page: &[u8], n: usize) -> io::Result<
     Ok(())
 }
 
+// Never put into its callers: the sheet is the program's largest room, and would lie on the stack of every command.
+#[inline(never)]
 fn answer(rt: &HostRuntime, o: Options, name: &[u8], text: &[u8]) -> io::Result<()> {
     let asked = answering::Options {
         limit: o.limit,

@@ -7,3 +7,4 @@ pub mod CallsTold
 pub mod Unique
 pub mod CallCases
 pub mod TypedOrder
+pub mod Steps

@@ -78,12 +78,14 @@ fn granted(file: &[u32], work: &mut [u32], answer: &mut [u32], proof: u32, tries
     }
 }
 
+// Word by word, as table::build::append.
 fn copy_steps(work: &[u32], proof: &mut [u32], count: u32)
     requires { (length work.now ≡ work_words) × (count ≤ most_leaves) × (count ≤ length proof.old) }
     ensures { proof.new ≡ at_front (take count (drop step_places work.now)) proof.old }
 {
-    let n = fields::wide(count);
-    proof[..n].copy_from_slice(&work[memory::STEPS..memory::STEPS + n]);
+    for i in 0..fields::wide(count) {
+        proof[i] = work[memory::STEPS + i];
+    }
 }
 
 // The steps that a search found and their answer, if it fits.

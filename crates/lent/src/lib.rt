@@ -1,8 +1,11 @@
 // What a line's call is lent: how long the buffers are, and with what they are filled before it; and the line that is written of it.
 #![tactic(auto)]
 
+ghost use Rattle.std.specs.Prelude.{◌≡◌, length, replicate};
+
 use std::io;
 use text::part;
+use words::room;
 
 // The most that a field of a row may be.
 pub const ANY: u32 = 4294967295;
@@ -42,10 +45,30 @@ pub const ENTRY_ROOM: usize = 16400;
 
 pub const TEXT_ROOM: usize = 131072;
 
-// What a buffer is filled with before a call, by words and by bytes.
-pub const FILLED: u32 = 0xA5A5A5A5;
+// Their lengths in numbers: what a row may ask for fits, and three words are a record.
+const _: () = prove!(LINE_ROOM == 450000 && VALUE_ROOM == 8);
 
-pub const FILLED_BYTE: u8 = 0xA5;
+const _: () = prove!(PROOF_ROOM == 300 && LONG_ROOM == 20000 && OFFERED_ROOM == 1024);
+
+const _: () = prove!(
+    FILE_ROOM == 16100 && RECORD_ROOM == 1800 && ENTRY_ROOM == 16400 && TEXT_ROOM == 131072
+);
+
+// Words as they are before a call.
+pub fn words<const N: usize>() -> [u32; N]
+    ensures value { result ≡ replicate N 0xA5A5A5A5 }
+    ensures sized { N ≡ length result }
+{
+    room::filled(0xA5A5A5A5)
+}
+
+// Bytes as they are before a call.
+pub fn bytes<const N: usize>() -> [u8; N]
+    ensures value { result ≡ replicate N 0xA5 }
+    ensures sized { N ≡ length result }
+{
+    room::filled(0xA5)
+}
 
 pub fn write_line(rt: &impl Print, out: &[u8], n: usize) -> io::Result<()> {
     rt.write_all(part::front(out, n))

@@ -48,8 +48,8 @@ fn lend_check(
     answers: usize,
     works: usize,
 ) -> io::Result<()> {
-    let mut answer: [u32; lent::LONG_ROOM] = room::filled(lent::FILLED);
-    let mut work: [u32; lent::LONG_ROOM] = room::filled(lent::FILLED);
+    let mut answer: [u32; lent::LONG_ROOM] = lent::words();
+    let mut work: [u32; lent::LONG_ROOM] = lent::words();
     let a = answers.min(lent::LONG_ROOM);
     let w = works.min(lent::LONG_ROOM);
     check(

@@ -93,8 +93,8 @@ fn lend_search(
     answers: usize,
     works: usize,
 ) -> io::Result<()> {
-    let mut answer: [u32; lent::LONG_ROOM] = room::filled(lent::FILLED);
-    let mut work: [u32; lent::LONG_ROOM] = room::filled(lent::FILLED);
+    let mut answer: [u32; lent::LONG_ROOM] = lent::words();
+    let mut work: [u32; lent::LONG_ROOM] = lent::words();
     let a = answers.min(lent::LONG_ROOM);
     let w = works.min(lent::LONG_ROOM);
     find(
@@ -119,7 +119,7 @@ fn lend_proof(
     answers: usize,
     works: usize,
 ) -> io::Result<()> {
-    let mut proof: [u32; lent::PROOF_ROOM] = room::filled(lent::FILLED);
+    let mut proof: [u32; lent::PROOF_ROOM] = lent::words();
     let p = proofs.min(lent::PROOF_ROOM);
     lend_search(
         rt,

@@ -19,10 +19,20 @@ pub fn after(file: &[u32], at: usize) -> usize
     at + (fields::wide(fields::following(file[at])) + 1)
 }
 
+// Most clauses of a shape differ in one of their first words, so the first that differs ends it.
+#[tactic(auto, using(crate::proofs::Comparing::lengths_differ, crate::proofs::Comparing::compare_begin))]
 fn same_words(left: &[u32], right: &[u32]) -> bool
     ensures { result ≡ same_words left.now right.now }
 {
-    left == right
+    if left.len() != right.len() {
+        return false;
+    }
+    for (i, word) in left.iter().enumerate() {
+        if *word != right[i] {
+            return false;
+        }
+    }
+    true
 }
 
 // Whether the clause of this number, which begins here, has the words of an earlier one.

@@ -1,11 +1,11 @@
 -- Building a file: words copied behind those that stand, clauses one by one, and the sealed file of a table, which is accepted and says that table.
-use mathlib.Core.Path.{◌≡◌, sym, ap, ◌∙◌}
+use mathlib.Core.Path.{◌≡◌, refl, sym, ap, ◌∙◌}
 use mathlib.Core.List.{List, [], ◌∷◌, ◌++◌, append_assoc, append-nil}
 use Prim.Native.Nat.{ℕ, zero, suc, ◌+◌, ◌^◌, ◌≤◌, ◌<◌}
 use native.Mathlib.Numerals.{add-one}
 use native.Mathlib.Omega.{arith}
 use lib.ListN.{length, take, drop, get_or, set, length-append, length-drop}
-use lib.Seq.{take-append_seam, drop-append_seam, drop-append-add, drop-drop, drop-cons, set-append_seam, append_snoc}
+use lib.Seq.{paste, paste-zero, paste-suc, length-paste, take-length, take-append_seam, drop-append_seam, drop-append-add, drop-drop, drop-cons, set-append_seam, append_snoc}
 use Rattle.table.specs.Build.{at_front, behind, trailer_words, sealed}
 use Rattle.table.specs.Encode.{clause_words, clauses_words, body_words, file_words}
 use Rattle.table.specs.File.{body_of, table_in, clause_starts, clause_part, judge}
@@ -18,6 +18,36 @@ use Rattle.table.proofs.Lookups.{part_found}
 use Rattle.table.proofs.BodyDecoding.{clause_encoded, table_encoded}
 use Rattle.table.proofs.AcceptedTable.{body_words_lem, body_readable, clause_stands, clause_sound_in_file, clause_numbered}
 use Rattle.table.proofs.FileEncoding.{clauses_append, body_split, file_accepted, file_decoded, file_encoded, file_within}
+
+-- so many of the words have been copied
+pub record Copying (file : List ℕ) (at : ℕ) (words : List ℕ) (i : ℕ) (copied : List ℕ) : Type 0 where
+  pub within : i ≤ length words
+  pub stands : copied ≡ paste file at words i
+  pub long : length copied ≡ length file
+
+module _ {file words : List ℕ} {at : ℕ} (room : at + length words ≤ length file) where
+  pub copy_begin : Copying file at words 0 file
+  copy_begin = record { within = omega arith; stands = paste-zero file at words; long = refl }
+
+  module _ {i : ℕ} {copied : List ℕ} (g : Copying file at words i copied) where
+    pub copy_in : i < length words → at + i < length copied
+    copy_in h = omega (arith, g.long)
+
+    pub copy_next : i < length words → Copying file at words (i + 1) (set copied (at + i) (get_or words i 0))
+    copy_next h =
+        let e : set copied (at + i) (get_or words i 0) ≡ paste file at words (i + 1) =
+        rw (g.stands, add-one) (paste-suc file at words i 0 (omega arith) h)
+        in
+        record {
+          within = omega arith;
+          stands = e;
+          long = ap length e ∙ length-paste file at words (i + 1) (omega arith) (omega arith);
+        }
+
+    pub copy_done : length words ≤ i → copied ≡ behind file at words
+    copy_done h =
+        let z : i ≡ length words = omega (arith, g.within) in
+        g.stands ∙ rw (z, take-length)
 
 -- words that stand at the front, and more behind them
 pub more_behind : (done more buffer : List ℕ) → behind (at_front done buffer) (length done) more ≡ at_front (done ++ more) buffer

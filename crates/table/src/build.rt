@@ -4,12 +4,15 @@ ghost use Rattle.table.specs.Build.{behind, sealed};
 
 use words::fingerprint;
 
-// Copies words into a file from a place on.
+// Copies words into a file from a place on, word by word: `copy_from_slice` would have the archive for C want one more name from outside.
+#[tactic(auto, using(crate::proofs::Building::copy_begin, crate::proofs::Building::copy_in, crate::proofs::Building::copy_done))]
 pub fn append(file: &mut [u32], at: usize, words: &[u32])
     requires { at + length words.now ≤ length file.old }
     ensures { file.new ≡ behind file.old at words.now }
 {
-    file[at..at + words.len()].copy_from_slice(words);
+    for (i, word) in words.iter().enumerate() {
+        file[at + i] = *word;
+    }
 }
 
 // Writes the trailer behind a body of so many words that stands at the front.

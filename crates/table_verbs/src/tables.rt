@@ -35,8 +35,8 @@ fn slim_file(
 
 // Lends the words for the slimmer file and for the old numbers that are asked for.
 fn lend_slim(rt: &impl Print, file: &[u32], words: usize, numbers: usize) -> io::Result<()> {
-    let mut slimmer: [u32; lent::LONG_ROOM] = room::filled(lent::FILLED);
-    let mut old: [u32; lent::LONG_ROOM] = room::filled(lent::FILLED);
+    let mut slimmer: [u32; lent::LONG_ROOM] = lent::words();
+    let mut old: [u32; lent::LONG_ROOM] = lent::words();
     let a = words.min(lent::LONG_ROOM);
     let b = numbers.min(lent::LONG_ROOM);
     slim_file(rt, file, &mut slimmer[..a], &mut old[..b])
@@ -95,9 +95,9 @@ fn lend_season(
     answers: usize,
     works: usize,
 ) -> io::Result<()> {
-    let mut proof: [u32; lent::PROOF_ROOM] = room::filled(lent::FILLED);
-    let mut answer: [u32; lent::LONG_ROOM] = room::filled(lent::FILLED);
-    let mut work: [u32; lent::LONG_ROOM] = room::filled(lent::FILLED);
+    let mut proof: [u32; lent::PROOF_ROOM] = lent::words();
+    let mut answer: [u32; lent::LONG_ROOM] = lent::words();
+    let mut work: [u32; lent::LONG_ROOM] = lent::words();
     let p = proofs.min(lent::PROOF_ROOM);
     let a = answers.min(lent::LONG_ROOM);
     let w = works.min(lent::LONG_ROOM);

@@ -15,7 +15,7 @@ fn read_text(rt: &impl Print, text: &[u8], file: &mut [u32]) -> io::Result<()> {
 
 // Lends the words for the file that are asked for.
 fn lend_file(rt: &impl Print, text: &[u8], words: usize) -> io::Result<()> {
-    let mut file: [u32; lent::LONG_ROOM] = room::filled(lent::FILLED);
+    let mut file: [u32; lent::LONG_ROOM] = lent::words();
     let w = words.min(lent::LONG_ROOM);
     read_text(rt, text, &mut file[..w])
 }
@@ -35,7 +35,7 @@ fn write_text(rt: &impl Print, file: &[u32], text: &mut [u8]) -> io::Result<()> 
 
 // Lends the bytes for the text that are asked for.
 fn lend_text(rt: &impl Print, file: &[u32], bytes: usize) -> io::Result<()> {
-    let mut text: [u8; lent::TEXT_ROOM] = room::filled(lent::FILLED_BYTE);
+    let mut text: [u8; lent::TEXT_ROOM] = lent::bytes();
     let b = bytes.min(lent::TEXT_ROOM);
     write_text(rt, file, &mut text[..b])
 }
@@ -69,8 +69,8 @@ fn lend_listing(
     bytes: usize,
     works: usize,
 ) -> io::Result<()> {
-    let mut listing: [u8; lent::TEXT_ROOM] = room::filled(lent::FILLED_BYTE);
-    let mut work: [u32; lent::LONG_ROOM] = room::filled(lent::FILLED);
+    let mut listing: [u8; lent::TEXT_ROOM] = lent::bytes();
+    let mut work: [u32; lent::LONG_ROOM] = lent::words();
     let b = bytes.min(lent::TEXT_ROOM);
     let w = works.min(lent::LONG_ROOM);
     list_clauses(rt, file, bound, offered, &mut listing[..b], &mut work[..w])

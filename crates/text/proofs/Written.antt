@@ -2,7 +2,7 @@
 use mathlib.Core.Path.{◌≡◌, refl, ◌∙◌}
 use mathlib.Core.List.{List, [], ◌∷◌}
 use Prim.Native.Nat.{ℕ, zero, suc, ◌+◌, ◌-◌, ◌*◌, ◌/◌, ◌%◌, ◌^◌, ◌≤◌, ◌<◌, max}
-use native.Mathlib.Nat.{zero-add, pow-le-pow_right, pow-zero, pow-suc, pow-succ', one-mul, le-div_iff_mul-le, div-lt_iff_lt-mul, mul-pos, mod-eq_of_lt, mod-lt, div-eq_of_lt}
+use native.Mathlib.Nat.{zero-add, pow-le-pow_right, pow-zero, pow-suc, pow-succ', one-mul, le-div_iff_mul-le, div-lt_iff_lt-mul, mul-div_cancel, mul-pos, mod-eq_of_lt, mod-lt, div-eq_of_lt}
 use native.Mathlib.Numerals.{add-one}
 use native.Mathlib.Omega.{arith}
 use lib.ListN.{length, take, drop, get_or, drop_of_length-le}
@@ -28,21 +28,31 @@ pub pow_pos : (base k : ℕ) → 2 ≤ base → 0 < base ^ k
 pow_pos base zero h = rw (pow-zero base) (omega arith)
 pow_pos base (suc k) h = rw (pow-suc base k) (mul-pos (pow_pos base k h) (omega arith))
 
+next_power : (base k m power : ℕ) → 2 ≤ base → k ≡ suc m → power ≡ base ^ k → power / base ≡ base ^ m
+next_power base k m power h s e = rw (e, s, pow-suc base m) (mul-div_cancel (base ^ m) (omega arith))
+
 next_digit : (base k m n : ℕ) → k ≡ suc m → digits_of base k n ≡ glyph_of (n / base ^ m % base) ∷ digits_of base m n
 unfolding digits_of
 next_digit base k m n s = rw s
 
-module _ (base count n : ℕ) where
-  pub power_fits : {most : ℕ} → 2 ≤ base → count < most → base ^ (most - 1) < 2 ^ 64 → base ^ count < 2 ^ 64
-  power_fits {most} h k f =
-      let up : base ^ count ≤ base ^ (most - 1) = pow-le-pow_right (omega arith) (omega arith) in omega arith
+-- the power in the highest digit that is left, where one is
+abbrev pub Highest : ℕ → ℕ → ℕ → Type 0
+Highest base left power = 0 < left → power ≡ base ^ (left - 1)
 
+module _ {base left power : ℕ} (h : 2 ≤ base) (e : Highest base left power) where
+  pub power_some : 0 < left → 0 < power
+  power_some some = rw (e some) (pow_pos base (left - 1) h)
+
+  pub power_next : Highest base (left - 1) (power / base)
+  power_next more = next_power base (left - 1) (left - 1 - 1) power h (omega arith) (e (omega arith))
+
+module _ (base count n : ℕ) where
   pub digit_more : 0 < count → {first : List ℕ} {from : ℕ} {whole out : List ℕ} {at : ℕ} → Left first from whole out at (digits_of base count n)
-      → {power : ℕ} → power ≡ base ^ (count - 1) → {g : ℕ} → g ≡ glyph_of (n / power % base) → {out' : List ℕ} {at' : ℕ} → Put out at (g ∷ []) out' at'
+      → {power : ℕ} → Highest base count power → {g : ℕ} → g ≡ glyph_of (n / power % base) → {out' : List ℕ} {at' : ℕ} → Put out at (g ∷ []) out' at'
       → Left first from whole out' at' (digits_of base (count - 1) n)
   digit_more some l ep e p =
       further (glyph_of (n / base ^ (count - 1) % base) ∷ []) (digits_of base (count - 1) n)
-      (rw (next_digit base count (count - 1) n (omega arith)) at l) (rw (e, ep) at p)
+      (rw (next_digit base count (count - 1) n (omega arith)) at l) (rw (e, ep some) at p)
 
 pub digit_below : (x base : ℕ) → 2 ≤ base → base ≤ 16 → x % base < 16
 digit_below x base h k = let m : x % base < base = mod-lt x (omega arith) in omega arith

@@ -56,15 +56,17 @@ fn glyph(d: u64) -> u8
     }
 }
 
-// The last digits of a number, so many.
-#[tactic(auto, using(crate::proofs::Putting::begin, crate::proofs::Written::power_fits, crate::proofs::Written::pow_pos, crate::proofs::Written::digit_below, crate::proofs::Written::digit_last))]
-fn digits(out: &mut [u8], from: usize, n: u64, base: u64, count: u32) -> usize
-    requires { (2 ≤ base) × (base ≤ 16) × (base ^ (count - 1) < 2 ^ 64) }
+// The last digits of a number, so many. `highest` is the power of the base in the first of them.
+#[tactic(auto, using(crate::proofs::Putting::begin, crate::proofs::Written::digit_below, crate::proofs::Written::digit_last))]
+fn digits(out: &mut [u8], from: usize, n: u64, base: u64, count: u32, highest: u64) -> usize
+    requires { (2 ≤ base) × (base ≤ 16) × (highest ≡ base ^ (count - 1)) }
     ensures { Put out.old from (digits_of base count n) out.new result }
 {
     let mut at = from;
-    for left in (0..count).rev() {
-        at = byte(out, at, glyph(n / base.pow(left) % base));
+    let mut power = highest;
+    for _ in 0..count {
+        at = byte(out, at, glyph(n / power % base));
+        power /= base;
     }
     at
 }
@@ -73,7 +75,7 @@ fn digits(out: &mut [u8], from: usize, n: u64, base: u64, count: u32) -> usize
 pub fn hex(out: &mut [u8], at: usize, w: u32) -> usize
     ensures { Put out.old at (hex_text w) out.new result }
 {
-    digits(out, at, u64::from(w), 16, 8)
+    digits(out, at, u64::from(w), 16, 8, 0x1000_0000)
 }
 
 // A word in decimal digits, with no zeros in front.
@@ -88,7 +90,8 @@ pub fn decimal(out: &mut [u8], at: usize, w: u32) -> usize
 pub fn long_decimal(out: &mut [u8], at: usize, n: u64) -> usize
     ensures { Put out.old at (long_decimal_text n) out.new result }
 {
-    digits(out, at, n, 10, n.max(1).ilog10() + 1)
+    let more = n.max(1).ilog10();
+    digits(out, at, n, 10, more + 1, 10u64.pow(more))
 }
 
 // Words, each with a space before it.
@@ -120,7 +123,7 @@ pub fn list(out: &mut [u8], at: usize, list: &[u32]) -> usize
 fn pair(out: &mut [u8], at: usize, b: u8) -> usize
     ensures { Put out.old at (digits_of 16 2 b) out.new result }
 {
-    digits(out, at, u64::from(b), 16, 2)
+    digits(out, at, u64::from(b), 16, 2, 16)
 }
 
 // Bytes run together.
