@@ -1,16 +1,18 @@
 -- Text written byte by byte, one law for each outcome, with premises as the code has them.
-use mathlib.Core.Path.{◌≡◌, refl, ◌∙◌}
+use mathlib.Core.Path.{◌≡◌, refl}
 use mathlib.Core.List.{List, [], ◌∷◌}
 use Prim.Native.Nat.{ℕ, zero, suc, ◌+◌, ◌-◌, ◌*◌, ◌/◌, ◌%◌, ◌^◌, ◌≤◌, ◌<◌, max}
-use native.Mathlib.Nat.{zero-add, pow-le-pow_right, pow-zero, pow-suc, pow-succ', one-mul, le-div_iff_mul-le, div-lt_iff_lt-mul, mul-div_cancel, mul-pos, mod-eq_of_lt, mod-lt, div-eq_of_lt}
+use native.Mathlib.Nat.{pow-le-pow_right, pow-zero, pow-suc, pow-succ', one-mul, le-div_iff_mul-le, div-lt_iff_lt-mul, mul-div_cancel, mul-pos, mod-eq_of_lt, mod-lt, div-eq_of_lt}
 use native.Mathlib.Numerals.{add-one}
 use native.Mathlib.Omega.{arith}
 use lib.ListN.{length, take, drop, get_or, drop_of_length-le}
 use lib.Seq.{drop-cons, take_all}
-use borrow.Author.Tests.{lt-ltb, ne_eqb}
+use borrow.Author.Tests.{lt-ltb, ne_eqb, ltb-true, ltb-false}
+use mathlib.Core.Bool.{Bool, true, false}
+use lib.Dec.{ltb}
 use Rattle.text.specs.Put.{Put}
-use Rattle.text.specs.Digits.{glyph_of, digits_of, hex_text, significant, decimal_text, spaced_text, words_text, pairs_text, bytes_text, long_decimal_text}
-use Rattle.text.proofs.Putting.{Left, further, finish, then}
+use Rattle.text.specs.Digits.{glyph_of, digits_of, hex_text, significant, spaced_text, words_text, pairs_text, bytes_text}
+use Rattle.text.proofs.Putting.{Left, begin, further, finish, then}
 
 pub from_place : (own : List ℕ) (at : ℕ) → at < length own → drop at own ≡ get_or own at 0 ∷ drop (at + 1) own
 from_place own at h = rw (add-one, drop-cons own at 0 h)
@@ -85,13 +87,6 @@ at_least n p pos h = (le-div_iff_mul-le pos).1 (rw one-mul h)
 at_most : (n b k : ℕ) → b ≡ suc k → n < 10 ^ suc (suc k) → n / 10 ^ suc k < 10
 at_most n b k e h = (div-lt_iff_lt-mul (pow_pos 10 (suc k) (omega arith))).1 (rw (← pow-succ' 10 (suc k)) h)
 
--- zeros in front are left out
-trimmed : (k more n : ℕ) → n < 10 ^ suc more → significant (digits_of 10 (k + suc more) n) ≡ significant (digits_of 10 (suc more) n)
-trimmed zero more n h = rw zero-add refl
-trimmed (suc k) more n h =
-    let up : 10 ^ suc more ≤ 10 ^ suc (k + more) = pow-le-pow_right (omega arith) (omega arith) in
-    shorter n (suc k + suc more) (k + suc more) (k + more) (omega arith) (omega arith) (omega arith) ∙ trimmed k more n h
-
 -- the highest digit stays
 highest : (n more : ℕ) → 10 ^ more ≤ max n 1 → n < 10 ^ suc more → significant (digits_of 10 (suc more) n) ≡ digits_of 10 (suc more) n
 unfolding significant digits_of
@@ -102,27 +97,76 @@ highest n (suc m) low high =
     let reached : 10 ^ suc m ≤ n = omega arith in
     longer n (suc (suc m)) m refl (at_least n (10 ^ suc m) (pow_pos 10 (suc m) (omega arith)) reached) (at_most n (suc m) m refl high)
 
--- a number of 64 bits: as many digits as its logarithm says, and one more
-module _ (n more : ℕ) (fits : n < 2 ^ 64) (low : 10 ^ more ≤ max n 1) where
-  pub power_of_ten : 10 ^ (more + 1 - 1) < 2 ^ 64
-  power_of_ten = let e : more + 1 - 1 ≡ more = omega arith in rw e (omega arith)
+-- what is left to be written of a number in decimal, so many places from its end: each of them where one that counts was written
+pub record Counting (n left power : ℕ) (first : List ℕ) (from : ℕ) (whole out : List ℕ) (at : ℕ) : Type 0 where
+  pub place : Highest 10 left power
+  pub begun : 10 ^ left ≤ n → Left first from whole out at (digits_of 10 left n)
+  pub none : n < 10 ^ left → Left first from whole out at (significant (digits_of 10 left n))
 
-  pub significant_digits : max n 1 < 10 * 10 ^ more → more < 20
-      → {out : List ℕ} {at : ℕ} {out' : List ℕ} {at' : ℕ} → Put out at (digits_of 10 (more + 1) n) out' at' → Put out at (long_decimal_text n) out' at'
-  significant_digits high few p =
-      let within : n < 10 ^ suc more = rw (pow-suc 10 more) (omega arith) in
-      let all : 19 - more + suc more ≡ 20 = omega arith in
-      let next : more + 1 ≡ suc more = omega arith in
-      let t : significant (digits_of 10 (19 - more + suc more) n) ≡ digits_of 10 (suc more) n = trimmed (19 - more) more n within ∙ highest n more low within in
-      let u : significant (digits_of 10 20 n) ≡ digits_of 10 (suc more) n = rw all at t in
-      rw u (rw next at p)
+pub counting_begin : (n places power : ℕ) (out : List ℕ) (at : ℕ) → power ≡ 10 ^ (places - 1) → n < 10 ^ places
+    → Counting n places power out at (significant (digits_of 10 places n)) out at
+counting_begin n places power out at e h = record {
+  place = λ some. e;
+  begun = λ g. absurd (omega arith);
+  none = λ g. begin out at (significant (digits_of 10 places n));
+}
 
--- a word has no more than ten
-pub short_number : (n : ℕ) → n < 2 ^ 32 → {out : List ℕ} {at : ℕ} {out' : List ℕ} {at' : ℕ} → Put out at (long_decimal_text n) out' at' → Put out at (decimal_text n) out' at'
-short_number n h p =
-    let e : 10 ^ 10 ≡ 10000000000 = refl in
-    let ten : n < 10 ^ suc 9 = omega arith in
-    rw (trimmed 10 9 n ten) at p
+module _ {n left power : ℕ} {first : List ℕ} {from : ℕ} {whole out : List ℕ} {at : ℕ} (c : Counting n left power first from whole out at) (some : 0 < left) where
+  one_more : left ≡ suc (left - 1)
+  one_more = omega arith
+
+  is_power : power ≡ 10 ^ (left - 1)
+  is_power = c.place some
+
+  pub ten_some : 0 < power
+  ten_some = power_some (omega arith) c.place some
+
+  lower : Highest 10 (left - 1) (power / 10)
+  lower = power_next (omega arith) c.place
+
+  all_left : 10 ^ (left - 1) ≤ max n 1 → Left first from whole out at (digits_of 10 left n)
+  all_left low = go (ltb n (10 ^ left)) refl
+    where
+      go : (b : Bool) → ltb n (10 ^ left) ≡ b → Left first from whole out at (digits_of 10 left n)
+      go false k = c.begun (ltb-false n (10 ^ left) k)
+      go true k =
+          let h : n < 10 ^ left = ltb-true n (10 ^ left) k in
+          let e : significant (digits_of 10 left n) ≡ digits_of 10 left n = rw one_more (highest n (left - 1) low (rw one_more at h)) in
+          rw e at (c.none h)
+
+  -- a digit that counts, or the last
+  module _ {g : ℕ} (e : g ≡ glyph_of (n / power % 10)) {out' : List ℕ} {at' : ℕ} (p : Put out at (g ∷ []) out' at') where
+    pub counted_more : power ≤ n → Counting n (left - 1) (power / 10) first from whole out' at'
+    counted_more h = record {
+      place = lower;
+      begun = λ k. digit_more 10 left n some (all_left (omega (arith, is_power))) c.place e p;
+      none = λ k. absurd (omega (arith, is_power));
+    }
+
+    pub counted_end : left - 1 ≡ 0 → Counting n (left - 1) (power / 10) first from whole out' at'
+    unfolding significant digits_of
+    counted_end z =
+        let low : 10 ^ (left - 1) ≤ max n 1 = rw (z, pow-zero 10) (omega arith) in
+        let l : Left first from whole out' at' (digits_of 10 (left - 1) n) = digit_more 10 left n some (all_left low) c.place e p in
+        record { place = lower; begun = λ k. l; none = λ k. rw z (rw z at l) }
+
+  -- a zero in front
+  pub counted_zero : n < power → (left - 1 ≡ 0 → ⊥) → Counting n (left - 1) (power / 10) first from whole out at
+  counted_zero h more =
+      let two : left ≡ suc (suc (left - 1 - 1)) = omega arith in
+      let next : left - 1 ≡ suc (left - 1 - 1) = omega arith in
+      let below : n < 10 ^ (left - 1) = omega (arith, is_power) in
+      let up : 10 ^ (left - 1) ≤ 10 ^ left = pow-le-pow_right (omega arith) (omega arith) in
+      let e : significant (digits_of 10 left n) ≡ significant (digits_of 10 (left - 1) n) = shorter n left (left - 1) (left - 1 - 1) two next (rw next at below) in
+      record { place = lower; begun = λ k. absurd (omega arith); none = λ k. rw e at (c.none (omega arith)) }
+
+pub counted_last : {n left power : ℕ} {first : List ℕ} {from : ℕ} {whole out : List ℕ} {at : ℕ} → Counting n left power first from whole out at → left ≤ 0 → Put first from whole out at
+unfolding significant digits_of
+counted_last {n} {left} {first = first} {from} {whole} {out} {at} c h = go (ltb n (10 ^ left)) refl
+  where
+    go : (b : Bool) → ltb n (10 ^ left) ≡ b → Put first from whole out at
+    go false k = let z : left ≡ 0 = omega arith in finish (rw z at (c.begun (ltb-false n (10 ^ left) k)))
+    go true k = let z : left ≡ 0 = omega arith in finish (rw z at (c.none (ltb-true n (10 ^ left) k)))
 
 -- words with a space before each
 module _ {first : List ℕ} {from : ℕ} {whole out : List ℕ} {at : ℕ} (ws : List ℕ) (i : ℕ) (l : Left first from whole out at (spaced_text (drop i ws))) where

@@ -2,7 +2,7 @@
 // after its text, past the buffer's end where the text does not fit.
 ghost use Rattle.std.specs.Prelude.{◌≡◌, [], ◌∷◌, ◌++◌, ◌+◌, ◌-◌, ◌^◌, ◌≤◌, ◌<◌, min, slice_set};
 ghost use Rattle.text.specs.Put.{Put};
-ghost use Rattle.text.specs.Digits.{glyph_of, digits_of, hex_text, decimal_text, spaced_text, words_text, pairs_text, bytes_text, long_decimal_text};
+ghost use Rattle.text.specs.Digits.{glyph_of, digits_of, significant, hex_text, decimal_text, spaced_text, words_text, pairs_text, bytes_text, long_decimal_text};
 
 // Stores an element where there is room for it; the position after it, which stops at the largest.
 fn store<T: Copy>(out: &mut [T], at: usize, element: T) -> usize
@@ -78,20 +78,36 @@ pub fn hex(out: &mut [u8], at: usize, w: u32) -> usize
     digits(out, at, u64::from(w), 16, 8, 0x1000_0000)
 }
 
+// The last digits of a number in decimal, so many, without the zeros in front of the first that counts.
+// `highest` is the power of ten in the first of them: where it is a constant, so is each power, and no division is left.
+#[tactic(auto, using(crate::proofs::Written::digit_below, crate::proofs::Written::counted_last))]
+fn counted(out: &mut [u8], from: usize, n: u64, places: u32, highest: u64) -> usize
+    requires { (1 ≤ places) × (highest ≡ 10 ^ (places - 1)) × (n < 10 ^ places) }
+    ensures { Put out.old from (significant (digits_of 10 places n)) out.new result }
+{
+    let mut at = from;
+    let mut power = highest;
+    for left in (0..places).rev() {
+        if power <= n || left == 0 {
+            at = byte(out, at, glyph(n / power % 10));
+        }
+        power /= 10;
+    }
+    at
+}
+
 // A word in decimal digits, with no zeros in front.
 pub fn decimal(out: &mut [u8], at: usize, w: u32) -> usize
     ensures { Put out.old at (decimal_text w) out.new result }
 {
-    long_decimal(out, at, u64::from(w))
+    counted(out, at, u64::from(w), 10, 1_000_000_000)
 }
 
 // A number of 64 bits in decimal digits, with no zeros in front.
-#[tactic(auto, using(crate::proofs::Written::power_of_ten))]
 pub fn long_decimal(out: &mut [u8], at: usize, n: u64) -> usize
     ensures { Put out.old at (long_decimal_text n) out.new result }
 {
-    let more = n.max(1).ilog10();
-    digits(out, at, n, 10, more + 1, 10u64.pow(more))
+    counted(out, at, n, 20, 10_000_000_000_000_000_000)
 }
 
 // Words, each with a space before it.
