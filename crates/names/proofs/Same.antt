@@ -1,18 +1,13 @@
 -- The bytes of the name at a place, and the same name.
-use mathlib.Core.Bool.{Bool, true, false, not, cond, ◌&&◌}
+use mathlib.Core.Bool.{Bool, true, false, not, cond}
 use mathlib.Core.List.{List, [], ◌∷◌}
 use mathlib.Core.Path.{◌≡◌, refl, sym, ap, ◌∙◌}
-use Prim.Native.Nat.{ℕ, suc, ◌+◌, ◌-◌, ◌≤◌, ◌<◌, min}
+use Prim.Native.Nat.{ℕ, suc, ◌+◌, ◌-◌, ◌≤◌, ◌<◌}
 use native.Mathlib.Numerals.{add-one}
-use native.Mathlib.Omega.{arith, min_cases}
-use lib.Dec.{eqb}
-use borrow.Author.Tests.{eq-eqb, ne_eqb, eqb-true}
-use Rattle.std.specs.List.{starts_with}
-use Rattle.clausetext.proofs.Apart.{false_not_true}
+use native.Mathlib.Omega.{arith}
+use borrow.Author.Tests.{eq-eqb, ne_eqb}
 use lib.ListN.{length, take, drop, get_or, length-drop, drop_of_length-le}
 use lib.Seq.{drop-cons, take_all, length-take-le}
-use Rattle.std.proofs.Common.{nat_eq}
-use Rattle.std.specs.Cmp.Lexicographic.{pointwise}
 use Rattle.clausetext.specs.Lexemes.{word_length}
 use Rattle.clausetext.proofs.Lexing.{word_within}
 use Rattle.names.specs.Numbers.{Name, same_name}
@@ -68,78 +63,40 @@ pub ends_after : (text : List ℕ) (at : ℕ) → length text ≤ at → true �
 unfolding same_name
 ends_after text at h = rw (no_name text at h)
 
--- a name is the name at its own front
-pub name_again : (text : List ℕ) → name_from (name_from text) ≡ name_from text
-unfolding name_from
-name_again [] = refl
-name_again (c ∷ cs) = go (name_byte c) refl (name_again cs)
-  where
-    go : (on : Bool) → name_byte c ≡ on → name_from (name_from cs) ≡ name_from cs → name_from (cond on (c ∷ name_from cs) []) ≡ cond on (c ∷ name_from cs) []
-    go true e more = rw e (ap (λ (l : List ℕ). c ∷ l) more)
-    go false e more = refl
-
-behind : Name → Name
-behind [] = []
-behind (c ∷ cs) = cs
-
-own_byte : (c : ℕ) (cs : Name) → name_from (c ∷ cs) ≡ c ∷ cs → (name_byte c ≡ true) × (name_from cs ≡ cs)
-unfolding name_from behind
-own_byte c cs = go (name_byte c) refl
-  where
-    go : (on : Bool) → name_byte c ≡ on → cond on (c ∷ name_from cs) [] ≡ c ∷ cs → (name_byte c ≡ true) × (name_from cs ≡ cs)
-    go true e q = (e, ap behind q)
-    go false e q = absurd (let z : 0 ≡ suc (length cs) = ap (λ (l : List ℕ). length l) q in omega arith)
-
--- a text begins with a name, and behind it no name goes on
-none_same : (name : Name) → same_name [] name ≡ same_name name []
+-- a name that begins with another byte
+begins_so : (text : List ℕ) (j c : ℕ) (more : Name) → j < length text → (get_or text j 0 ≡ c → ⊥)
+    → (on : Bool) → name_byte (get_or text j 0) ≡ on → false ≡ same_name (c ∷ more) (name_at text j)
 unfolding same_name
-none_same [] = refl
-none_same (c ∷ cs) = refl
+begins_so text j c more g d true k = rw (name_on text j g k, ne_eqb c (get_or text j 0) (λ q. d (sym q)))
+begins_so text j c more g d false k = rw (name_over text j g k)
 
-pub stands : (name rest : Name) → name_from name ≡ name
-    → (pointwise nat_eq name (take (length name) rest) && same_name [] (name_from (drop (length name) rest))) ≡ same_name (name_from rest) name
-unfolding same_name name_from
-stands [] rest e = none_same (name_from rest)
-stands (c ∷ cs) [] e = refl
-stands (c ∷ cs) (d ∷ ds) e = let own = own_byte c cs e in go (eqb c d) refl own.0 (stands cs ds own.1)
-  where
-    other : eqb c d ≡ false → (on : Bool) → false ≡ same_name (cond on (d ∷ name_from ds) []) (c ∷ cs)
-    other k true = rw (ne_eqb d c (λ q. let z : eqb c d ≡ true = eq-eqb c d (sym q) in false_not_true (sym k ∙ z))) refl
-    other k false = refl
+-- the comparison of two names byte by byte: what is left decides
+pub record Alike (text : List ℕ) (one other i j : ℕ) : Type 0 where
+  pub left : same_name (name_at text one) (name_at text other) ≡ same_name (name_at text i) (name_at text j)
 
-    go : (same : Bool) → eqb c d ≡ same → name_byte c ≡ true
-        → (pointwise nat_eq cs (take (length cs) ds) && same_name [] (name_from (drop (length cs) ds))) ≡ same_name (name_from ds) cs
-        → ((eqb c d && pointwise nat_eq cs (take (length cs) ds)) && same_name [] (name_from (drop (length cs) ds)))
-        ≡ same_name (cond (name_byte d) (d ∷ name_from ds) []) (c ∷ cs)
-    go true k on more =
-        let z : c ≡ d = eqb-true c d k in
-        let too : name_byte d ≡ true = rw z at on in
-        rw (k, too, eq-eqb d c (sym z)) more
-    go false k on more = rw k (other k (name_byte d))
+module _ {text : List ℕ} {one other : ℕ} where
+  pub begin_alike : Alike text one other one other
+  begin_alike = record { left = refl }
 
--- as the code looks for it: in the rest of the text from a place on
-module _ (text : List ℕ) (place : ℕ) {from : ℕ} (cut : from ≡ min place (length text)) where
-  pub rest_of : take (length text - from) (drop from text) ≡ drop place text
-  rest_of = min_cases place (length text) _
-      (λ h m. let z : from ≡ place = cut ∙ omega arith in rw z (rest_is text place))
-      (λ h m.
-      let z : from ≡ length text = cut ∙ omega arith in
-      let all : length text ≤ length text = omega arith in
-      let none : length text - length text ≡ 0 = omega arith in
-      rw (z, drop_of_length-le text all, none, drop_of_length-le text h) refl)
+  module _ {i j : ℕ} (inv : Alike text one other i j) (h : i < length text) {on : Bool} (p : on ≡ name_byte (get_or text i 0)) where
+    pub alike_over : on ≡ false → {r : Bool} → r ≡ same_name [] (name_at text j) → r ≡ same_name (name_at text one) (name_at text other)
+    alike_over e q = rw (inv.left, name_over text i h (sym p ∙ e)) q
 
-  module _ (name : Name) (own : name_from name ≡ name) {begins : Bool}
-      (b : begins ≡ starts_with nat_eq (take (length text - from) (drop from text)) name) where
-    there : same_name (name_from (take (length text - from) (drop from text))) name ≡ same_name (name_at text place) name
-    there = ap (λ (l : List ℕ). same_name (name_from l) name) rest_of
+    module _ (e : on ≡ true) where
+      pub other_over : length text ≤ j → false ≡ same_name (name_at text one) (name_at text other)
+      unfolding same_name
+      other_over g = rw (inv.left, name_on text i h (sym p ∙ e), no_name text j g)
 
-    pub stands_so : begins ≡ true → {r : Bool} → r ≡ same_name [] (name_at (take (length text - from) (drop from text)) (length name))
-        → r ≡ same_name (name_at text place) name
-    stands_so e q =
-        let first : pointwise nat_eq name (take (length name) (take (length text - from) (drop from text))) ≡ true = sym b ∙ e in
-        q ∙ (rw first at (stands name (take (length text - from) (drop from text)) own)) ∙ there
+      pub other_byte : j < length text → (get_or text j 0 ≡ get_or text i 0 → ⊥) → false ≡ same_name (name_at text one) (name_at text other)
+      other_byte g d =
+          rw (inv.left, name_on text i h (sym p ∙ e)) (begins_so text j (get_or text i 0) (name_at text (i + 1)) g d (name_byte (get_or text j 0)) refl)
 
-    pub stands_not : begins ≡ false → begins ≡ same_name (name_at text place) name
-    stands_not e =
-        let first : pointwise nat_eq name (take (length name) (take (length text - from) (drop from text))) ≡ false = sym b ∙ e in
-        e ∙ (rw first at (stands name (take (length text - from) (drop from text)) own)) ∙ there
+      pub byte_alike : j < length text → get_or text j 0 ≡ get_or text i 0 → Alike text one other (i + 1) (j + 1)
+      unfolding same_name
+      byte_alike g q =
+          let k : name_byte (get_or text j 0) ≡ true = rw q (sym p ∙ e) in
+          record { left = inv.left ∙ rw (name_on text i h (sym p ∙ e), name_on text j g k, q, eq-eqb (get_or text i 0) (get_or text i 0) refl) }
+
+  pub alike_end : {i j : ℕ} → Alike text one other i j → length text ≤ i → {r : Bool} → r ≡ same_name [] (name_at text j)
+      → r ≡ same_name (name_at text one) (name_at text other)
+  alike_end {i} inv h q = rw (inv.left, no_name text i h) q

@@ -13,9 +13,8 @@ fn find(text: &[u8], known: &[u32], name: usize) -> Option<usize>
     ensures within { IfSome result (λ number. number < length known.now) }
     ensures is { unwrap_or result (length known.now) ≡ number_in (names_at text.now known.now) (name_at text.now name) }
 {
-    let own = name::at(text, name);
     for (n, place) in known.iter().enumerate() {
-        if name::stands_at(text, wide(*place), own) {
+        if name::same(text, wide(*place), name) {
             return Some(n);
         }
     }

@@ -2,7 +2,7 @@
 ghost use Rattle.std.specs.Prelude.{◌≡◌, [], ◌+◌, ◌<◌, length};
 ghost use Rattle.words.specs.Fields.{kind_of};
 ghost use Rattle.names.specs.Numbers.{same_name};
-ghost use Rattle.names.specs.Noting.{name_from, name_at};
+ghost use Rattle.names.specs.Noting.{name_byte, name_at};
 
 use clausetext::{kind, token};
 
@@ -18,24 +18,45 @@ pub fn at(text: &[u8], place: usize) -> &[u8]
     &rest[..length]
 }
 
-// No name goes on at a place.
-#[tactic(auto, using(crate::proofs::Same::ends_at, crate::proofs::Same::ends_after))]
-fn ends(text: &[u8], place: usize) -> bool
-    ensures { result ≡ same_name [] (name_at text.now place) }
+// Names go on in letters, digits and `_`.
+fn goes_on(c: u8) -> bool
+    ensures { result ≡ name_byte c }
 {
-    if text.len() <= place {
-        return true;
-    }
-    !kind::goes_on(kind::kind_of(text[place]))
+    kind::goes_on(kind::kind_of(c))
 }
 
-// The name at a place is this one. No more of the text is looked at than the name is long, and a byte.
-pub(crate) fn stands_at(text: &[u8], place: usize, name: &[u8]) -> bool
-    requires { name_from name.now ≡ name.now }
-    ensures { result ≡ same_name (name_at text.now place) name.now }
+// No name goes on at a place.
+#[tactic(auto, using(crate::proofs::Same::ends_at, crate::proofs::Same::ends_after))]
+fn ends(text: &[u8], at: usize) -> bool
+    ensures { result ≡ same_name [] (name_at text.now at) }
 {
-    let rest = &text[place.min(text.len())..];
-    rest.starts_with(name) && ends(rest, name.len())
+    if at < text.len() {
+        return !goes_on(text[at]);
+    }
+    true
+}
+
+// The names at two places are the same. The first byte that tells them apart ends it: a name may be as long as a text.
+#[tactic(auto, using(crate::proofs::Same::begin_alike))]
+pub(crate) fn same(text: &[u8], one: usize, other: usize) -> bool
+    ensures { result ≡ same_name (name_at text.now one) (name_at text.now other) }
+{
+    let mut there = other;
+    for here in one..text.len() {
+        let c = text[here];
+        if !goes_on(c) {
+            return ends(text, there);
+        }
+        if text.len() <= there {
+            return false;
+        }
+        let d = text[there];
+        if d != c {
+            return false;
+        }
+        there += 1;
+    }
+    ends(text, there)
 }
 
 // How many bytes the name at a place has.
